@@ -1,26 +1,7 @@
+-- By the test of the value.
 use borrow.Author.Needs.{needs}
 use Rattle.forward.proofs.order1.Fwd1.abs.Statement.{statement}
 use Rattle.forward.proofs.order1.Fwd1.abs.Tie as tie
-use Rattle.forward.proofs.order1.Fwd1.abs.Reads as reads
-use Rattle.forward.proofs.order1.Fwd1.abs.Lts as lts
-use Rattle.forward.proofs.order1.Fwd1.ge_f64.Reads as ge-f64-reads
-use Rattle.forward.proofs.order1.Fwd1.neg.Reads as neg-reads
-
--- src/order1.rt:185:12
-ge-f64-requires : tie.Need-ge-f64-requires
-ge-f64-requires c κs = search needs
-
--- src/order1.rt:185:45
-neg-requires : tie.Need-neg-requires
-neg-requires c κs = search needs
-
--- src/order1.rt:182:5
-returns : tie.Need-returns
-returns c = ?
-
--- src/order1.rt:182:5
-returns-2 : tie.Need-returns-2
-returns-2 c = ?
 
 pub abs-spec : {M : Type 1} → statement M
-abs-spec = tie.close (tie.spec ge-f64-requires neg-requires returns returns-2)
+abs-spec = tie.close (tie.spec (λ c κs. search needs) (λ c κs. search needs) (λ c. rw (← c .before .ge-f64 .ensures, c .if1 .taken)) (λ c. rw (← c .before .before .ge-f64 .ensures, c .before .if1 .left, c .neg .ensures)))

@@ -1,22 +1,11 @@
+-- The constant of the value's remainder.
+use mathlib.Core.Path.{refl}
+use lib.Ieee.{binary64, rem}
 use borrow.Author.Needs.{needs}
+use Rattle.forward.specs.Forward.{constant}
+use Rattle.forward.proofs.Parts.{via}
 use Rattle.forward.proofs.order2.Fwd2.rem_f64.Statement.{statement}
 use Rattle.forward.proofs.order2.Fwd2.rem_f64.Tie as tie
-use Rattle.forward.proofs.order2.Fwd2.rem_f64.Reads as reads
-use Rattle.forward.proofs.order2.Fwd2.rem_f64.Lts as lts
-use Rattle.forward.proofs.order2.Fwd2.constant.Reads as constant-reads
-use Rattle.forward.proofs.order2.Fwd2.value.Reads as value-reads
-
--- src/order2.rt:188:24
-value-requires : tie.Need-value-requires
-value-requires c κs = search needs
-
--- src/order2.rt:188:9
-constant-requires : tie.Need-constant-requires
-constant-requires c κs = search needs
-
--- src/order2.rt:185:5
-returns : tie.Need-returns
-returns c = ?
 
 pub rem-f64-spec : {M : Type 1} → statement M
-rem-f64-spec = tie.close (tie.spec value-requires constant-requires returns)
+rem-f64-spec = tie.close (tie.spec (λ c κs. search needs) (λ c κs. search needs) (λ c. via (λ x y. constant 2 (rem binary64 x y)) (c .constant .ensures) (c .before .value .ensures) refl))

@@ -1,21 +1,8 @@
+-- Each part by the order below.
 use borrow.Author.Needs.{needs}
+use Rattle.forward.proofs.Parts.{pair}
 use Rattle.forward.proofs.order2.Fwd2.sub.Statement.{statement}
 use Rattle.forward.proofs.order2.Fwd2.sub.Tie as tie
-use Rattle.forward.proofs.order2.Fwd2.sub.Reads as reads
-use Rattle.forward.proofs.order2.Fwd2.sub.Lts as lts
-use Rattle.forward.proofs.order1.Fwd1.sub.Reads as sub-reads
-
--- src/order2.rt:87:18
-sub-requires : tie.Need-sub-requires
-sub-requires c κs = search needs
-
--- src/order2.rt:88:18
-sub-requires-2 : tie.Need-sub-requires-2
-sub-requires-2 c κs = search needs
-
--- src/order2.rt:83:5
-returns : tie.Need-returns
-returns c = ?
 
 pub sub-spec : {M : Type 1} → statement M
-sub-spec = tie.close (tie.spec sub-requires sub-requires-2 returns)
+sub-spec = tie.close (tie.spec (λ c κs. search needs) (λ c κs. search needs) (λ c. pair (c .before .sub .ensures) (c .sub2 .ensures)))

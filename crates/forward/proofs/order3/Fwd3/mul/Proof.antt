@@ -1,30 +1,9 @@
+-- Each part by the order below.
 use borrow.Author.Needs.{needs}
+use Rattle.forward.specs.Forward.{sum}
+use Rattle.forward.proofs.Parts.{pair, via}
 use Rattle.forward.proofs.order3.Fwd3.mul.Statement.{statement}
 use Rattle.forward.proofs.order3.Fwd3.mul.Tie as tie
-use Rattle.forward.proofs.order3.Fwd3.mul.Reads as reads
-use Rattle.forward.proofs.order3.Fwd3.mul.Lts as lts
-use Rattle.forward.proofs.order2.Fwd2.add.Reads as add-reads
-use Rattle.forward.proofs.order2.Fwd2.mul.Reads as mul-reads
-
--- src/order3.rt:104:18
-mul-requires : tie.Need-mul-requires
-mul-requires c κs = search needs
-
--- src/order3.rt:105:18
-mul-requires-2 : tie.Need-mul-requires-2
-mul-requires-2 c κs = search needs
-
--- src/order3.rt:105:42
-mul-requires-3 : tie.Need-mul-requires-3
-mul-requires-3 c κs = search needs
-
--- src/order3.rt:105:18
-add-requires : tie.Need-add-requires
-add-requires c κs = search needs
-
--- src/order3.rt:100:5
-returns : tie.Need-returns
-returns c = ?
 
 pub mul-spec : {M : Type 1} → statement M
-mul-spec = tie.close (tie.spec mul-requires mul-requires-2 mul-requires-3 add-requires returns)
+mul-spec = tie.close (tie.spec (λ c κs. search needs) (λ c κs. search needs) (λ c κs. search needs) (λ c κs. search needs) (λ c. pair (c .before .before .before .mul .ensures) (via (sum 2) (c .add .ensures) (c .before .before .mul2 .ensures) (c .before .mul3 .ensures))))

@@ -1,31 +1,10 @@
+-- Each part by the order below.
+use mathlib.Core.Path.{refl}
 use borrow.Author.Needs.{needs}
+use Rattle.forward.specs.Forward.{difference, product, quotient}
+use Rattle.forward.proofs.Parts.{pair, via}
 use Rattle.forward.proofs.order4.Fwd4.div.Statement.{statement}
 use Rattle.forward.proofs.order4.Fwd4.div.Tie as tie
-use Rattle.forward.proofs.order4.Fwd4.div.Reads as reads
-use Rattle.forward.proofs.order4.Fwd4.div.Lts as lts
-use Rattle.forward.proofs.order3.Fwd3.div.Reads as div-reads
-use Rattle.forward.proofs.order3.Fwd3.mul.Reads as mul-reads
-use Rattle.forward.proofs.order3.Fwd3.sub.Reads as sub-reads
-
--- src/order4.rt:120:13
-div-requires : tie.Need-div-requires
-div-requires c κs = search needs
-
--- src/order4.rt:123:31
-mul-requires : tie.Need-mul-requires
-mul-requires c κs = search needs
-
--- src/order4.rt:123:18
-sub-requires : tie.Need-sub-requires
-sub-requires c κs = search needs
-
--- src/order4.rt:123:18
-div-requires-2 : tie.Need-div-requires-2
-div-requires-2 c κs = search needs
-
--- src/order4.rt:117:5
-returns : tie.Need-returns
-returns c = ?
 
 pub div-spec : {M : Type 1} → statement M
-div-spec = tie.close (tie.spec div-requires mul-requires sub-requires div-requires-2 returns)
+div-spec = tie.close (tie.spec (λ c κs. search needs) (λ c κs. search needs) (λ c κs. search needs) (λ c κs. search needs) (λ c. let q = c .before .before .before .div .ensures in pair q (via (quotient 3) (c .div2 .ensures) (via (difference 3) (c .before .sub .ensures) refl (via (product 3) (c .before .before .mul .ensures) q refl)) refl)))

@@ -1,22 +1,8 @@
+-- Each part by the order below.
 use borrow.Author.Needs.{needs}
+use Rattle.forward.proofs.Parts.{pair}
 use Rattle.forward.proofs.order4.Fwd4.var.Statement.{statement}
 use Rattle.forward.proofs.order4.Fwd4.var.Tie as tie
-use Rattle.forward.proofs.order4.Fwd4.var.Reads as reads
-use Rattle.forward.proofs.order4.Fwd4.var.Lts as lts
-use Rattle.forward.proofs.order3.Fwd3.one.Reads as one-reads
-use Rattle.forward.proofs.order3.Fwd3.var.Reads as var-reads
-
--- src/order4.rt:32:18
-var-requires : tie.Need-var-requires
-var-requires c κs = search needs
-
--- src/order4.rt:33:18
-one-requires : tie.Need-one-requires
-one-requires c κs = search needs
-
--- src/order4.rt:28:5
-returns : tie.Need-returns
-returns c = ?
 
 pub var-spec : {M : Type 1} → statement M
-var-spec = tie.close (tie.spec var-requires one-requires returns)
+var-spec = tie.close (tie.spec (λ c κs. search needs) (λ c κs. search needs) (λ c. pair (c .before .var .ensures) (c .one .ensures)))
