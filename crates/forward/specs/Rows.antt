@@ -10,17 +10,17 @@ abbrev pub whole : ℕ → Float
 whole n = ofInt binary64 (pos n)
 
 -- P9 Fwd2 cube at 3: 27, 27, 18
-pub cube-at-3 : Fwd 2
+abbrev pub cube-at-3 : Fwd 2
 cube-at-3 = let x = variable 2 (whole 3) in product 2 (product 2 x x) x
 
-pub P9 : Type 0
+abbrev pub P9 : Type 0
 P9 = (derivative 0 2 cube-at-3 ≡ whole 27) × (derivative 1 2 cube-at-3 ≡ whole 27) × (derivative 2 2 cube-at-3 ≡ whole 18)
 
 -- P10 Fwd4 fourth power at 2: 16, 32, 48, 48, 24
-pub fourth-power-at-2 : Fwd 4
+abbrev pub fourth-power-at-2 : Fwd 4
 fourth-power-at-2 = let x = variable 4 (whole 2) in product 4 (product 4 (product 4 x x) x) x
 
-pub P10 : Type 0
+abbrev pub P10 : Type 0
 P10 =
     (derivative 0 4 fourth-power-at-2 ≡ whole 16)
     × (derivative 1 4 fourth-power-at-2 ≡ whole 32)
@@ -29,9 +29,9 @@ P10 =
     × (derivative 4 4 fourth-power-at-2 ≡ whole 24)
 
 -- P11 Fwd1 constant 49 over plain 49: value bits 3fefffffffffffff
-pub P11 : Type 0
+abbrev pub P11 : Type 0
 P11 = toBits binary64 (derivative 0 1 (quotient-plain 1 (constant 1 (whole 49)) (whole 49))) ≡ 0x3fef_ffff_ffff_ffff
 
 -- P12 plain 3 minus Fwd2 constant 0: parts ((3, +0), (-0, -0))
-pub P12 : Type 0
+abbrev pub P12 : Type 0
 P12 = _≡_ {A = Fwd 2} (plain-difference 2 (whole 3) (constant 2 nought)) ((whole 3, nought), (neg nought, neg nought))
