@@ -153,7 +153,7 @@ impl Fwd1 {
     {
         Fwd1 {
             val: k - self.val,
-            dot: -self.dot,
+            dot: -self.dot, // k is constant
         }
     }
 

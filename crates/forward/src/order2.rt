@@ -165,7 +165,7 @@ impl Fwd2 {
     {
         Fwd2 {
             val: Fwd1::constant(k).sub(self.val),
-            dot: self.dot.neg(),
+            dot: self.dot.neg(), // k is constant
         }
     }
 

@@ -172,7 +172,7 @@ impl Fwd3 {
     {
         Fwd3 {
             val: Fwd2::constant(k).sub(self.val),
-            dot: self.dot.neg(),
+            dot: self.dot.neg(), // k is constant
         }
     }
 

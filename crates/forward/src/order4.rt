@@ -179,7 +179,7 @@ impl Fwd4 {
     {
         Fwd4 {
             val: Fwd3::constant(k).sub(self.val),
-            dot: self.dot.neg(),
+            dot: self.dot.neg(), // k is constant
         }
     }
 
