@@ -1,7 +1,6 @@
 -- By the test of the values.
-use borrow.Author.Needs.{needs}
 use Rattle.forward.proofs.order2.Fwd2.min_val.Statement.{statement}
 use Rattle.forward.proofs.order2.Fwd2.min_val.Tie as tie
 
 pub min-val-spec : {M : Type 1} → statement M
-min-val-spec = tie.close (tie.spec (λ c κs. search needs) (λ c. rw (← c .before .le .ensures, c .if1 .taken)) (λ c. rw (← c .before .le .ensures, c .if1 .left)))
+min-val-spec = tie.close (tie.spec (λ _ _. tt) (λ c. rw (← c .before .le .ensures, c .if1 .taken)) (λ c. rw (← c .before .le .ensures, c .if1 .left)))

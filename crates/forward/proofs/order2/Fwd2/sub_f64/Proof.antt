@@ -1,9 +1,8 @@
 -- The value part by the order below; the derivative part stays.
 use mathlib.Core.Path.{refl}
-use borrow.Author.Needs.{needs}
 use Rattle.forward.proofs.Parts.{pair}
 use Rattle.forward.proofs.order2.Fwd2.sub_f64.Statement.{statement}
 use Rattle.forward.proofs.order2.Fwd2.sub_f64.Tie as tie
 
 pub sub-f64-spec : {M : Type 1} → statement M
-sub-f64-spec = tie.close (tie.spec (λ c κs. search needs) (λ c. pair (c .sub-f64 .ensures) refl))
+sub-f64-spec = tie.close (tie.spec (λ _ _. tt) (λ c. pair (c .sub-f64 .ensures) refl))
