@@ -1,33 +1,38 @@
--- At every order, by induction on it: an operation's innermost value is the float operation on the innermost values.
+-- The innermost value goes by value parts alone, so each line is the line of the order below.
 use Prim.Native.Nat.{ℕ, zero, suc}
-use mathlib.Core.Path.{_≡_, refl}
-use lib.Ieee.{Float, binary64, add, sub, mul, div, neg}
-use Rattle.forward.specs.Forward.{Fwd, value, constant, variable, sum, difference, product, quotient, negation}
+use mathlib.Core.Path.{_≡_, refl, _∙_, ap}
+use lib.Ieee.{binary64, sub, div}
+use Rattle.forward.specs.Forward.{value, constant}
+use Rattle.forward.specs.Values.{Values}
 
-pub value-constant : (n : ℕ) (k : Float) → value n (constant n k) ≡ k
-value-constant zero k = refl
-value-constant (suc n) k = value-constant n k
-
-pub value-variable : (n : ℕ) (v : Float) → value n (variable n v) ≡ v
-value-variable zero v = refl
-value-variable (suc n) v = value-variable n v
-
-pub value-sum : (n : ℕ) (x y : Fwd n) → value n (sum n x y) ≡ add binary64 (value n x) (value n y)
-value-sum zero x y = refl
-value-sum (suc n) (a, b) (c, d) = value-sum n a c
-
-pub value-difference : (n : ℕ) (x y : Fwd n) → value n (difference n x y) ≡ sub binary64 (value n x) (value n y)
-value-difference zero x y = refl
-value-difference (suc n) (a, b) (c, d) = value-difference n a c
-
-pub value-product : (n : ℕ) (x y : Fwd n) → value n (product n x y) ≡ mul binary64 (value n x) (value n y)
-value-product zero x y = refl
-value-product (suc n) (a, b) (c, d) = value-product n a c
-
-pub value-quotient : (n : ℕ) (x y : Fwd n) → value n (quotient n x y) ≡ div binary64 (value n x) (value n y)
-value-quotient zero x y = refl
-value-quotient (suc n) (a, b) (c, d) = value-quotient n a c
-
-pub value-negation : (n : ℕ) (x : Fwd n) → value n (negation n x) ≡ neg (value n x)
-value-negation zero x = refl
-value-negation (suc n) (a, b) = value-negation n a
+pub values : (n : ℕ) → Values n
+values zero = record {
+  of-constant = λ c. refl;
+  of-variable = λ v. refl;
+  of-sum = λ x y. refl;
+  of-difference = λ x y. refl;
+  of-product = λ x y. refl;
+  of-quotient = λ x y. refl;
+  of-negation = λ x. refl;
+  of-sum-plain = λ x k. refl;
+  of-difference-plain = λ x k. refl;
+  of-plain-difference = λ k y. refl;
+  of-product-plain = λ x k. refl;
+  of-plain-quotient = λ k y. refl;
+}
+values (suc n) =
+    let below = values n in
+    record {
+      of-constant = below .of-constant;
+      of-variable = below .of-variable;
+      of-sum = λ x y. below .of-sum (x .0) (y .0);
+      of-difference = λ x y. below .of-difference (x .0) (y .0);
+      of-product = λ x y. below .of-product (x .0) (y .0);
+      of-quotient = λ x y. below .of-quotient (x .0) (y .0);
+      of-negation = λ x. below .of-negation (x .0);
+      of-sum-plain = λ x k. below .of-sum-plain (x .0) k;
+      of-difference-plain = λ x k. below .of-difference-plain (x .0) k;
+      of-plain-difference = λ k y. below .of-difference (constant n k) (y .0) ∙ ap (λ v. sub binary64 v (value n (y .0))) (below .of-constant k);
+      of-product-plain = λ x k. below .of-product-plain (x .0) k;
+      of-plain-quotient = λ k y. below .of-quotient (constant n k) (y .0) ∙ ap (λ v. div binary64 v (value n (y .0))) (below .of-constant k);
+    }

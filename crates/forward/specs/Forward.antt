@@ -2,10 +2,10 @@
 -- A number of order 0 is a float. One of order n + 1 is a value part and a derivative part, each of order n.
 -- Any two NaNs are one value here (`lib.Ieee` has one `nan`), and every operation is total.
 use Prim.Native.Nat.{ℕ, zero, suc}
-use mathlib.Core.Bool.{cond}
+use mathlib.Core.Bool.{Bool, cond}
 use lib.Ieee.{Float, nan, binary64, ofBits, add, sub, mul, div, rem, neg, lt, le, eq}
-use Rattle.forward.specs.declared.ordering.Ordering.{Ordering}
-use Rattle.forward.specs.declared.ordering.Ordering.the-variants.{Less, Equal, Greater, NotComparable}
+use Rattle.forward.specs.declared.comparison.Ordering.{Ordering}
+use Rattle.forward.specs.declared.comparison.Ordering.the-variants.{Less, Equal, Greater, NotComparable}
 
 abbrev pub Fwd : ℕ → Type 0
 Fwd zero = Float
@@ -73,44 +73,58 @@ abbrev pub difference-plain : (n : ℕ) → Fwd n → Float → Fwd n
 difference-plain zero x k = sub binary64 x k
 difference-plain (suc n) (a, b) k = (difference-plain n a k, b)
 
+-- k - (c, d) = (constant k - c, -d)
+abbrev pub plain-difference : (n : ℕ) → Float → Fwd n → Fwd n
+plain-difference zero k y = sub binary64 k y
+plain-difference (suc n) k (c, d) = (difference n (constant n k) c, negation n d)
+
 abbrev pub product-plain : (n : ℕ) → Fwd n → Float → Fwd n
 product-plain zero x k = mul binary64 x k
 product-plain (suc n) (a, b) k = (product-plain n a k, product-plain n b k)
 
 -- 1.0 / k is formed once, and both parts are multiplied by it
 abbrev pub quotient-plain : (n : ℕ) → Fwd n → Float → Fwd n
-quotient-plain n x k = product-plain n x (div binary64 one k)
-
--- k - (c, d) = (constant k - c, -d)
-abbrev pub plain-difference : (n : ℕ) → Float → Fwd n → Fwd n
-plain-difference zero k y = sub binary64 k y
-plain-difference (suc n) k (c, d) = (difference n (constant n k) c, negation n d)
+quotient-plain zero x k = div binary64 x k
+quotient-plain (suc n) x k = product-plain (suc n) x (div binary64 one k)
 
 -- k divided by a number is constant k over it
 abbrev pub plain-quotient : (n : ℕ) → Float → Fwd n → Fwd n
 plain-quotient n k y = quotient n (constant n k) y
 
--- ---- what looks at the innermost value only
+-- ---- by the innermost values only
 
--- the constant of the values' remainder
+-- the constant of the values' %, as Rust has it: exact, of the truncated quotient, with the dividend's sign
 abbrev pub remainder : (n : ℕ) → Fwd n → Fwd n → Fwd n
 remainder n x y = constant n (rem binary64 (value n x) (value n y))
 
 abbrev pub remainder-plain : (n : ℕ) → Fwd n → Float → Fwd n
 remainder-plain n x k = constant n (rem binary64 (value n x) k)
 
--- how two values compare; where a NaN stands they do not
+-- a comparison, of two numbers or with a plain one: what the comparison of floats says of the values
+abbrev pub compared : {A : Type 0} → (Float → Float → A) → (n : ℕ) → Fwd n → Fwd n → A
+compared says n x y = says (value n x) (value n y)
+
+abbrev pub compared-plain : {A : Type 0} → (Float → Float → A) → (n : ℕ) → Fwd n → Float → A
+compared-plain says n x k = says (value n x) k
+
+-- the comparisons of floats are `lib.Ieee`'s eq, ne, lt and le, these two, and what Rust's partial_cmp answers; where a NaN stands all but ne are false
+abbrev pub gt : Float → Float → Bool
+gt x y = lt y x
+
+abbrev pub ge : Float → Float → Bool
+ge x y = le y x
+
 abbrev pub comparison : Float → Float → Ordering
-comparison x y = cond (lt x y) Less (cond (eq x y) Equal (cond (lt y x) Greater NotComparable))
+comparison x y = cond (lt x y) Less (cond (eq x y) Equal (cond (gt x y) Greater NotComparable))
 
 -- the number if its value >= 0.0, else its negation
-abbrev pub absolute : (n : ℕ) → Fwd n → Fwd n
-absolute n x = cond (le nought (value n x)) x (negation n x)
+abbrev pub abs : (n : ℕ) → Fwd n → Fwd n
+abs n x = cond (compared-plain ge n x nought) x (negation n x)
 
 -- the left if left >= right, else the right
-abbrev pub maximum : (n : ℕ) → Fwd n → Fwd n → Fwd n
-maximum n x y = cond (le (value n y) (value n x)) x y
+abbrev pub max-val : (n : ℕ) → Fwd n → Fwd n → Fwd n
+max-val n x y = cond (compared ge n x y) x y
 
 -- the left if left <= right, else the right
-abbrev pub minimum : (n : ℕ) → Fwd n → Fwd n → Fwd n
-minimum n x y = cond (le (value n x) (value n y)) x y
+abbrev pub min-val : (n : ℕ) → Fwd n → Fwd n → Fwd n
+min-val n x y = cond (compared le n x y) x y

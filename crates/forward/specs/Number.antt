@@ -1,4 +1,5 @@
--- The number that each struct of the code holds. Each map is one to one (proofs/OneToOne.antt), so a promise about `number2 r` decides r.
+-- The number that each struct of the code holds. Each map is one to one, so a promise about `number2 r` decides r.
+use mathlib.Core.Path.{_≡_}
 use Rattle.forward.specs.Forward.{Fwd}
 use Rattle.forward.specs.declared.order1.Fwd1.{Fwd1}
 use Rattle.forward.specs.declared.order2.Fwd2.{Fwd2}
@@ -16,3 +17,10 @@ number3 x = (number2 (x .val), number2 (x .dot))
 
 abbrev pub number4 : Fwd4 → Fwd 4
 number4 x = (number3 (x .val), number3 (x .dot))
+
+abbrev pub OneToOne : {A B : Type 0} → (A → B) → Type 0
+OneToOne {A} f = (x y : A) → f x ≡ f y → x ≡ y
+
+-- proved in proofs/OneToOne.antt
+abbrev pub Told : Type 0
+Told = OneToOne number1 × OneToOne number2 × OneToOne number3 × OneToOne number4

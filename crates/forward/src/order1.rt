@@ -1,10 +1,10 @@
 // Fwd1: a value and its first derivative, as floats. The Rust's Fwd<f64>.
-use crate::ordering::Ordering;
+use crate::comparison::Ordering;
 ghost use mathlib.Core.Path.{_≡_};
-ghost use lib.Ieee.{lt, le, eq, ne};
+ghost use lib.Ieee.{eq, ne, lt, le};
 ghost use Rattle.forward.specs.Forward.{nought, one, constant, variable, value, derivative, sum, difference, product, quotient, negation};
 ghost use Rattle.forward.specs.Forward.{sum-plain, difference-plain, product-plain, quotient-plain, plain-difference, plain-quotient};
-ghost use Rattle.forward.specs.Forward.{remainder, remainder-plain, comparison, absolute, maximum, minimum};
+ghost use Rattle.forward.specs.Forward.{remainder, remainder-plain, compared, compared-plain, gt, ge, comparison, abs, max-val, min-val};
 ghost use Rattle.forward.specs.Number.{number1};
 
 pub struct Fwd1 {
@@ -180,119 +180,119 @@ impl Fwd1 {
 
     // self if its value >= 0.0, else -self.
     pub fn abs(self) -> Fwd1
-        ensures { λ x. ⌜ number1 x ≡ absolute 1 (number1 self) ⌝ }
+        ensures { λ x. ⌜ number1 x ≡ abs 1 (number1 self) ⌝ }
     {
-        if self.ge_f64(0.0) { self } else { self.neg() }
+        if self.val >= 0.0 { self } else { self.neg() }
     }
 
     // self if its value >= r's, else r.
     pub fn max_val(self, r: Fwd1) -> Fwd1
-        ensures { λ x. ⌜ number1 x ≡ maximum 1 (number1 self) (number1 r) ⌝ }
+        ensures { λ x. ⌜ number1 x ≡ max-val 1 (number1 self) (number1 r) ⌝ }
     {
-        if self.ge(r) { self } else { r }
+        if self.val >= r.val { self } else { r }
     }
 
     // self if its value <= r's, else r.
     pub fn min_val(self, r: Fwd1) -> Fwd1
-        ensures { λ x. ⌜ number1 x ≡ minimum 1 (number1 self) (number1 r) ⌝ }
+        ensures { λ x. ⌜ number1 x ≡ min-val 1 (number1 self) (number1 r) ⌝ }
     {
-        if self.le(r) { self } else { r }
+        if self.val <= r.val { self } else { r }
     }
 
     // The values are equal.
     pub fn eq(self, r: Fwd1) -> bool
-        ensures { λ x. ⌜ x ≡ eq (value 1 (number1 self)) (value 1 (number1 r)) ⌝ }
+        ensures { λ x. ⌜ x ≡ compared eq 1 (number1 self) (number1 r) ⌝ }
     {
         self.val == r.val
     }
 
     // The values are not equal, as a NaN never is.
     pub fn ne(self, r: Fwd1) -> bool
-        ensures { λ x. ⌜ x ≡ ne (value 1 (number1 self)) (value 1 (number1 r)) ⌝ }
+        ensures { λ x. ⌜ x ≡ compared ne 1 (number1 self) (number1 r) ⌝ }
     {
         self.val != r.val
     }
 
     // The value is below r's.
     pub fn lt(self, r: Fwd1) -> bool
-        ensures { λ x. ⌜ x ≡ lt (value 1 (number1 self)) (value 1 (number1 r)) ⌝ }
+        ensures { λ x. ⌜ x ≡ compared lt 1 (number1 self) (number1 r) ⌝ }
     {
         self.val < r.val
     }
 
     // The value is below r's or equal.
     pub fn le(self, r: Fwd1) -> bool
-        ensures { λ x. ⌜ x ≡ le (value 1 (number1 self)) (value 1 (number1 r)) ⌝ }
+        ensures { λ x. ⌜ x ≡ compared le 1 (number1 self) (number1 r) ⌝ }
     {
         self.val <= r.val
     }
 
     // The value is above r's.
     pub fn gt(self, r: Fwd1) -> bool
-        ensures { λ x. ⌜ x ≡ lt (value 1 (number1 r)) (value 1 (number1 self)) ⌝ }
+        ensures { λ x. ⌜ x ≡ compared gt 1 (number1 self) (number1 r) ⌝ }
     {
         self.val > r.val
     }
 
     // The value is above r's or equal.
     pub fn ge(self, r: Fwd1) -> bool
-        ensures { λ x. ⌜ x ≡ le (value 1 (number1 r)) (value 1 (number1 self)) ⌝ }
+        ensures { λ x. ⌜ x ≡ compared ge 1 (number1 self) (number1 r) ⌝ }
     {
         self.val >= r.val
     }
 
     // How the value stands to r's.
     pub fn partial_cmp(self, r: Fwd1) -> Ordering
-        ensures { λ x. ⌜ x ≡ comparison (value 1 (number1 self)) (value 1 (number1 r)) ⌝ }
+        ensures { λ x. ⌜ x ≡ compared comparison 1 (number1 self) (number1 r) ⌝ }
     {
         Ordering::of(self.val, r.val)
     }
 
     // The value equals k.
     pub fn eq_f64(self, k: f64) -> bool
-        ensures { λ x. ⌜ x ≡ eq (value 1 (number1 self)) k ⌝ }
+        ensures { λ x. ⌜ x ≡ compared-plain eq 1 (number1 self) k ⌝ }
     {
         self.val == k
     }
 
     // The value does not equal k, as a NaN never does.
     pub fn ne_f64(self, k: f64) -> bool
-        ensures { λ x. ⌜ x ≡ ne (value 1 (number1 self)) k ⌝ }
+        ensures { λ x. ⌜ x ≡ compared-plain ne 1 (number1 self) k ⌝ }
     {
         self.val != k
     }
 
     // The value is below k.
     pub fn lt_f64(self, k: f64) -> bool
-        ensures { λ x. ⌜ x ≡ lt (value 1 (number1 self)) k ⌝ }
+        ensures { λ x. ⌜ x ≡ compared-plain lt 1 (number1 self) k ⌝ }
     {
         self.val < k
     }
 
     // The value is below k or equal.
     pub fn le_f64(self, k: f64) -> bool
-        ensures { λ x. ⌜ x ≡ le (value 1 (number1 self)) k ⌝ }
+        ensures { λ x. ⌜ x ≡ compared-plain le 1 (number1 self) k ⌝ }
     {
         self.val <= k
     }
 
     // The value is above k.
     pub fn gt_f64(self, k: f64) -> bool
-        ensures { λ x. ⌜ x ≡ lt k (value 1 (number1 self)) ⌝ }
+        ensures { λ x. ⌜ x ≡ compared-plain gt 1 (number1 self) k ⌝ }
     {
         self.val > k
     }
 
     // The value is above k or equal.
     pub fn ge_f64(self, k: f64) -> bool
-        ensures { λ x. ⌜ x ≡ le k (value 1 (number1 self)) ⌝ }
+        ensures { λ x. ⌜ x ≡ compared-plain ge 1 (number1 self) k ⌝ }
     {
         self.val >= k
     }
 
     // How the value stands to k.
     pub fn partial_cmp_f64(self, k: f64) -> Ordering
-        ensures { λ x. ⌜ x ≡ comparison (value 1 (number1 self)) k ⌝ }
+        ensures { λ x. ⌜ x ≡ compared-plain comparison 1 (number1 self) k ⌝ }
     {
         Ordering::of(self.val, k)
     }

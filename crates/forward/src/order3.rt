@@ -1,11 +1,11 @@
 // Fwd3: a value and its derivatives to order 3, as two numbers of the order below. The Rust's Fwd<Fwd2>.
+use crate::comparison::Ordering;
 use crate::order2::Fwd2;
-use crate::ordering::Ordering;
 ghost use mathlib.Core.Path.{_≡_};
-ghost use lib.Ieee.{lt, le, eq, ne};
+ghost use lib.Ieee.{eq, ne, lt, le};
 ghost use Rattle.forward.specs.Forward.{nought, one, constant, variable, value, derivative, sum, difference, product, quotient, negation};
 ghost use Rattle.forward.specs.Forward.{sum-plain, difference-plain, product-plain, quotient-plain, plain-difference, plain-quotient};
-ghost use Rattle.forward.specs.Forward.{remainder, remainder-plain, comparison, absolute, maximum, minimum};
+ghost use Rattle.forward.specs.Forward.{remainder, remainder-plain, compared, compared-plain, gt, ge, comparison, abs, max-val, min-val};
 ghost use Rattle.forward.specs.Number.{number3};
 
 pub struct Fwd3 {
@@ -199,119 +199,119 @@ impl Fwd3 {
 
     // self if its value >= 0.0, else -self.
     pub fn abs(self) -> Fwd3
-        ensures { λ x. ⌜ number3 x ≡ absolute 3 (number3 self) ⌝ }
+        ensures { λ x. ⌜ number3 x ≡ abs 3 (number3 self) ⌝ }
     {
         if self.ge_f64(0.0) { self } else { self.neg() }
     }
 
     // self if its value >= r's, else r.
     pub fn max_val(self, r: Fwd3) -> Fwd3
-        ensures { λ x. ⌜ number3 x ≡ maximum 3 (number3 self) (number3 r) ⌝ }
+        ensures { λ x. ⌜ number3 x ≡ max-val 3 (number3 self) (number3 r) ⌝ }
     {
         if self.ge(r) { self } else { r }
     }
 
     // self if its value <= r's, else r.
     pub fn min_val(self, r: Fwd3) -> Fwd3
-        ensures { λ x. ⌜ number3 x ≡ minimum 3 (number3 self) (number3 r) ⌝ }
+        ensures { λ x. ⌜ number3 x ≡ min-val 3 (number3 self) (number3 r) ⌝ }
     {
         if self.le(r) { self } else { r }
     }
 
     // The values are equal.
     pub fn eq(self, r: Fwd3) -> bool
-        ensures { λ x. ⌜ x ≡ eq (value 3 (number3 self)) (value 3 (number3 r)) ⌝ }
+        ensures { λ x. ⌜ x ≡ compared eq 3 (number3 self) (number3 r) ⌝ }
     {
         self.val.eq(r.val)
     }
 
     // The values are not equal, as a NaN never is.
     pub fn ne(self, r: Fwd3) -> bool
-        ensures { λ x. ⌜ x ≡ ne (value 3 (number3 self)) (value 3 (number3 r)) ⌝ }
+        ensures { λ x. ⌜ x ≡ compared ne 3 (number3 self) (number3 r) ⌝ }
     {
         self.val.ne(r.val)
     }
 
     // The value is below r's.
     pub fn lt(self, r: Fwd3) -> bool
-        ensures { λ x. ⌜ x ≡ lt (value 3 (number3 self)) (value 3 (number3 r)) ⌝ }
+        ensures { λ x. ⌜ x ≡ compared lt 3 (number3 self) (number3 r) ⌝ }
     {
         self.val.lt(r.val)
     }
 
     // The value is below r's or equal.
     pub fn le(self, r: Fwd3) -> bool
-        ensures { λ x. ⌜ x ≡ le (value 3 (number3 self)) (value 3 (number3 r)) ⌝ }
+        ensures { λ x. ⌜ x ≡ compared le 3 (number3 self) (number3 r) ⌝ }
     {
         self.val.le(r.val)
     }
 
     // The value is above r's.
     pub fn gt(self, r: Fwd3) -> bool
-        ensures { λ x. ⌜ x ≡ lt (value 3 (number3 r)) (value 3 (number3 self)) ⌝ }
+        ensures { λ x. ⌜ x ≡ compared gt 3 (number3 self) (number3 r) ⌝ }
     {
         self.val.gt(r.val)
     }
 
     // The value is above r's or equal.
     pub fn ge(self, r: Fwd3) -> bool
-        ensures { λ x. ⌜ x ≡ le (value 3 (number3 r)) (value 3 (number3 self)) ⌝ }
+        ensures { λ x. ⌜ x ≡ compared ge 3 (number3 self) (number3 r) ⌝ }
     {
         self.val.ge(r.val)
     }
 
     // How the value stands to r's.
     pub fn partial_cmp(self, r: Fwd3) -> Ordering
-        ensures { λ x. ⌜ x ≡ comparison (value 3 (number3 self)) (value 3 (number3 r)) ⌝ }
+        ensures { λ x. ⌜ x ≡ compared comparison 3 (number3 self) (number3 r) ⌝ }
     {
         self.val.partial_cmp(r.val)
     }
 
     // The value equals k.
     pub fn eq_f64(self, k: f64) -> bool
-        ensures { λ x. ⌜ x ≡ eq (value 3 (number3 self)) k ⌝ }
+        ensures { λ x. ⌜ x ≡ compared-plain eq 3 (number3 self) k ⌝ }
     {
         self.val.eq_f64(k)
     }
 
     // The value does not equal k, as a NaN never does.
     pub fn ne_f64(self, k: f64) -> bool
-        ensures { λ x. ⌜ x ≡ ne (value 3 (number3 self)) k ⌝ }
+        ensures { λ x. ⌜ x ≡ compared-plain ne 3 (number3 self) k ⌝ }
     {
         self.val.ne_f64(k)
     }
 
     // The value is below k.
     pub fn lt_f64(self, k: f64) -> bool
-        ensures { λ x. ⌜ x ≡ lt (value 3 (number3 self)) k ⌝ }
+        ensures { λ x. ⌜ x ≡ compared-plain lt 3 (number3 self) k ⌝ }
     {
         self.val.lt_f64(k)
     }
 
     // The value is below k or equal.
     pub fn le_f64(self, k: f64) -> bool
-        ensures { λ x. ⌜ x ≡ le (value 3 (number3 self)) k ⌝ }
+        ensures { λ x. ⌜ x ≡ compared-plain le 3 (number3 self) k ⌝ }
     {
         self.val.le_f64(k)
     }
 
     // The value is above k.
     pub fn gt_f64(self, k: f64) -> bool
-        ensures { λ x. ⌜ x ≡ lt k (value 3 (number3 self)) ⌝ }
+        ensures { λ x. ⌜ x ≡ compared-plain gt 3 (number3 self) k ⌝ }
     {
         self.val.gt_f64(k)
     }
 
     // The value is above k or equal.
     pub fn ge_f64(self, k: f64) -> bool
-        ensures { λ x. ⌜ x ≡ le k (value 3 (number3 self)) ⌝ }
+        ensures { λ x. ⌜ x ≡ compared-plain ge 3 (number3 self) k ⌝ }
     {
         self.val.ge_f64(k)
     }
 
     // How the value stands to k.
     pub fn partial_cmp_f64(self, k: f64) -> Ordering
-        ensures { λ x. ⌜ x ≡ comparison (value 3 (number3 self)) k ⌝ }
+        ensures { λ x. ⌜ x ≡ compared-plain comparison 3 (number3 self) k ⌝ }
     {
         self.val.partial_cmp_f64(k)
     }

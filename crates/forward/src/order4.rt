@@ -1,11 +1,11 @@
 // Fwd4: a value and its derivatives to order 4, as two numbers of the order below. The Rust's Fwd<Fwd3>.
+use crate::comparison::Ordering;
 use crate::order3::Fwd3;
-use crate::ordering::Ordering;
 ghost use mathlib.Core.Path.{_≡_};
-ghost use lib.Ieee.{lt, le, eq, ne};
+ghost use lib.Ieee.{eq, ne, lt, le};
 ghost use Rattle.forward.specs.Forward.{nought, one, constant, variable, value, derivative, sum, difference, product, quotient, negation};
 ghost use Rattle.forward.specs.Forward.{sum-plain, difference-plain, product-plain, quotient-plain, plain-difference, plain-quotient};
-ghost use Rattle.forward.specs.Forward.{remainder, remainder-plain, comparison, absolute, maximum, minimum};
+ghost use Rattle.forward.specs.Forward.{remainder, remainder-plain, compared, compared-plain, gt, ge, comparison, abs, max-val, min-val};
 ghost use Rattle.forward.specs.Number.{number4};
 
 pub struct Fwd4 {
@@ -206,119 +206,119 @@ impl Fwd4 {
 
     // self if its value >= 0.0, else -self.
     pub fn abs(self) -> Fwd4
-        ensures { λ x. ⌜ number4 x ≡ absolute 4 (number4 self) ⌝ }
+        ensures { λ x. ⌜ number4 x ≡ abs 4 (number4 self) ⌝ }
     {
         if self.ge_f64(0.0) { self } else { self.neg() }
     }
 
     // self if its value >= r's, else r.
     pub fn max_val(self, r: Fwd4) -> Fwd4
-        ensures { λ x. ⌜ number4 x ≡ maximum 4 (number4 self) (number4 r) ⌝ }
+        ensures { λ x. ⌜ number4 x ≡ max-val 4 (number4 self) (number4 r) ⌝ }
     {
         if self.ge(r) { self } else { r }
     }
 
     // self if its value <= r's, else r.
     pub fn min_val(self, r: Fwd4) -> Fwd4
-        ensures { λ x. ⌜ number4 x ≡ minimum 4 (number4 self) (number4 r) ⌝ }
+        ensures { λ x. ⌜ number4 x ≡ min-val 4 (number4 self) (number4 r) ⌝ }
     {
         if self.le(r) { self } else { r }
     }
 
     // The values are equal.
     pub fn eq(self, r: Fwd4) -> bool
-        ensures { λ x. ⌜ x ≡ eq (value 4 (number4 self)) (value 4 (number4 r)) ⌝ }
+        ensures { λ x. ⌜ x ≡ compared eq 4 (number4 self) (number4 r) ⌝ }
     {
         self.val.eq(r.val)
     }
 
     // The values are not equal, as a NaN never is.
     pub fn ne(self, r: Fwd4) -> bool
-        ensures { λ x. ⌜ x ≡ ne (value 4 (number4 self)) (value 4 (number4 r)) ⌝ }
+        ensures { λ x. ⌜ x ≡ compared ne 4 (number4 self) (number4 r) ⌝ }
     {
         self.val.ne(r.val)
     }
 
     // The value is below r's.
     pub fn lt(self, r: Fwd4) -> bool
-        ensures { λ x. ⌜ x ≡ lt (value 4 (number4 self)) (value 4 (number4 r)) ⌝ }
+        ensures { λ x. ⌜ x ≡ compared lt 4 (number4 self) (number4 r) ⌝ }
     {
         self.val.lt(r.val)
     }
 
     // The value is below r's or equal.
     pub fn le(self, r: Fwd4) -> bool
-        ensures { λ x. ⌜ x ≡ le (value 4 (number4 self)) (value 4 (number4 r)) ⌝ }
+        ensures { λ x. ⌜ x ≡ compared le 4 (number4 self) (number4 r) ⌝ }
     {
         self.val.le(r.val)
     }
 
     // The value is above r's.
     pub fn gt(self, r: Fwd4) -> bool
-        ensures { λ x. ⌜ x ≡ lt (value 4 (number4 r)) (value 4 (number4 self)) ⌝ }
+        ensures { λ x. ⌜ x ≡ compared gt 4 (number4 self) (number4 r) ⌝ }
     {
         self.val.gt(r.val)
     }
 
     // The value is above r's or equal.
     pub fn ge(self, r: Fwd4) -> bool
-        ensures { λ x. ⌜ x ≡ le (value 4 (number4 r)) (value 4 (number4 self)) ⌝ }
+        ensures { λ x. ⌜ x ≡ compared ge 4 (number4 self) (number4 r) ⌝ }
     {
         self.val.ge(r.val)
     }
 
     // How the value stands to r's.
     pub fn partial_cmp(self, r: Fwd4) -> Ordering
-        ensures { λ x. ⌜ x ≡ comparison (value 4 (number4 self)) (value 4 (number4 r)) ⌝ }
+        ensures { λ x. ⌜ x ≡ compared comparison 4 (number4 self) (number4 r) ⌝ }
     {
         self.val.partial_cmp(r.val)
     }
 
     // The value equals k.
     pub fn eq_f64(self, k: f64) -> bool
-        ensures { λ x. ⌜ x ≡ eq (value 4 (number4 self)) k ⌝ }
+        ensures { λ x. ⌜ x ≡ compared-plain eq 4 (number4 self) k ⌝ }
     {
         self.val.eq_f64(k)
     }
 
     // The value does not equal k, as a NaN never does.
     pub fn ne_f64(self, k: f64) -> bool
-        ensures { λ x. ⌜ x ≡ ne (value 4 (number4 self)) k ⌝ }
+        ensures { λ x. ⌜ x ≡ compared-plain ne 4 (number4 self) k ⌝ }
     {
         self.val.ne_f64(k)
     }
 
     // The value is below k.
     pub fn lt_f64(self, k: f64) -> bool
-        ensures { λ x. ⌜ x ≡ lt (value 4 (number4 self)) k ⌝ }
+        ensures { λ x. ⌜ x ≡ compared-plain lt 4 (number4 self) k ⌝ }
     {
         self.val.lt_f64(k)
     }
 
     // The value is below k or equal.
     pub fn le_f64(self, k: f64) -> bool
-        ensures { λ x. ⌜ x ≡ le (value 4 (number4 self)) k ⌝ }
+        ensures { λ x. ⌜ x ≡ compared-plain le 4 (number4 self) k ⌝ }
     {
         self.val.le_f64(k)
     }
 
     // The value is above k.
     pub fn gt_f64(self, k: f64) -> bool
-        ensures { λ x. ⌜ x ≡ lt k (value 4 (number4 self)) ⌝ }
+        ensures { λ x. ⌜ x ≡ compared-plain gt 4 (number4 self) k ⌝ }
     {
         self.val.gt_f64(k)
     }
 
     // The value is above k or equal.
     pub fn ge_f64(self, k: f64) -> bool
-        ensures { λ x. ⌜ x ≡ le k (value 4 (number4 self)) ⌝ }
+        ensures { λ x. ⌜ x ≡ compared-plain ge 4 (number4 self) k ⌝ }
     {
         self.val.ge_f64(k)
     }
 
     // How the value stands to k.
     pub fn partial_cmp_f64(self, k: f64) -> Ordering
-        ensures { λ x. ⌜ x ≡ comparison (value 4 (number4 self)) k ⌝ }
+        ensures { λ x. ⌜ x ≡ compared-plain comparison 4 (number4 self) k ⌝ }
     {
         self.val.partial_cmp_f64(k)
     }

@@ -1,6 +1,8 @@
--- By the test of the values.
+-- By the test, on either way.
+use mathlib.Core.Path.{refl}
+use Rattle.forward.proofs.Parts.{kept, passed}
 use Rattle.forward.proofs.order2.Fwd2.min_val.Statement.{statement}
 use Rattle.forward.proofs.order2.Fwd2.min_val.Tie as tie
 
 pub min-val-spec : {M : Type 1} → statement M
-min-val-spec = tie.close (tie.spec (λ _ _. tt) (λ c. rw (← c .before .le .ensures, c .if1 .taken)) (λ c. rw (← c .before .le .ensures, c .if1 .left)))
+min-val-spec = tie.close (tie.spec (λ _ _. tt) (λ c. kept _ _ (c .before .le .ensures) (c .if1 .taken)) (λ c. passed _ _ (c .before .le .ensures) (c .if1 .left) refl))

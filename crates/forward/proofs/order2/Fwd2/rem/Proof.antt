@@ -1,14 +1,11 @@
--- The constant of the values' remainder.
-use lib.Ieee.{binary64, rem}
-use Rattle.forward.specs.Forward.{constant}
-use Rattle.forward.proofs.Parts.{via}
+-- By the values and the constant.
+use Rattle.forward.proofs.Parts.{remainder-of}
 use Rattle.forward.proofs.order2.Fwd2.rem.Statement.{statement}
 use Rattle.forward.proofs.order2.Fwd2.rem.Tie as tie
 
 returns : tie.Need-returns
 returns c =
-    via (λ x y. constant 2 (rem binary64 x y))
-    (c .constant .ensures) (c .before .before .value .ensures) (c .before .value2 .ensures)
+    remainder-of 2 (c .before .before .value .ensures) (c .before .value2 .ensures) (c .constant .ensures)
 
 pub rem-spec : {M : Type 1} → statement M
 rem-spec = tie.close (tie.spec (λ _ _. tt) (λ _ _. tt) (λ _ _. tt) returns)

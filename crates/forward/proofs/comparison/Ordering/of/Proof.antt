@@ -1,6 +1,6 @@
 -- By the tests, in the rule's order.
-use Rattle.forward.proofs.ordering.Ordering.of.Statement.{statement}
-use Rattle.forward.proofs.ordering.Ordering.of.Tie as tie
+use Rattle.forward.proofs.comparison.Ordering.of.Statement.{statement}
+use Rattle.forward.proofs.comparison.Ordering.of.Tie as tie
 
 pub of-spec : {M : Type 1} → statement M
 of-spec =
