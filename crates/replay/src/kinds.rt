@@ -1,0 +1,184 @@
+// The kinds of cases, numbered in the order of docs/REPLAY.md's table: their names and how many words each takes.
+use crate::words::byte_at;
+use libc::STDOUT_FILENO;
+ghost use Prim.Native.Nat.{_≤_, _<_};
+
+pub const CONSTANT: usize = 0;
+
+pub const VAR: usize = 1;
+
+pub const ZERO: usize = 2;
+
+pub const ONE: usize = 3;
+
+pub const READS: usize = 4;
+
+pub const ADD: usize = 5;
+
+pub const SUB: usize = 6;
+
+pub const MUL: usize = 7;
+
+pub const DIV: usize = 8;
+
+pub const REM: usize = 9;
+
+pub const MAX_VAL: usize = 10;
+
+pub const MIN_VAL: usize = 11;
+
+pub const NEG: usize = 12;
+
+pub const ABS: usize = 13;
+
+pub const ADD_F64: usize = 14;
+
+pub const SUB_F64: usize = 15;
+
+pub const MUL_F64: usize = 16;
+
+pub const DIV_F64: usize = 17;
+
+pub const REM_F64: usize = 18;
+
+pub const SUB_FROM: usize = 19;
+
+pub const DIV_INTO: usize = 20;
+
+pub const COMPARE: usize = 21;
+
+pub const COMPARE_F64: usize = 22;
+
+// How many there are. As a kind, none of them.
+pub const KINDS: usize = 23;
+
+// A name is ended by a space, in the table as in a line.
+const WIDTH: usize = 12;
+
+const NAMES: [[u8; WIDTH]; KINDS] = [
+    *b"constant    ",
+    *b"var         ",
+    *b"zero        ",
+    *b"one         ",
+    *b"reads       ",
+    *b"add         ",
+    *b"sub         ",
+    *b"mul         ",
+    *b"div         ",
+    *b"rem         ",
+    *b"max_val     ",
+    *b"min_val     ",
+    *b"neg         ",
+    *b"abs         ",
+    *b"add_f64     ",
+    *b"sub_f64     ",
+    *b"mul_f64     ",
+    *b"div_f64     ",
+    *b"rem_f64     ",
+    *b"sub_from    ",
+    *b"div_into    ",
+    *b"compare     ",
+    *b"compare_f64 ",
+];
+
+// The kind whose name starts the line, or KINDS.
+pub fn kind_of(line: &[u8]) -> usize
+    ensures { λ r. ⌜ r ≤ 23 ⌝ }
+{
+    for kind in 0..KINDS {
+        if is_named(line, kind) {
+            return kind;
+        }
+    }
+    KINDS
+}
+
+fn is_named(line: &[u8], kind: usize) -> bool
+    requires { ⌜ kind < 23 ⌝ }
+{
+    for at in 0..WIDTH {
+        let byte = NAMES[kind][at];
+        if byte_at(line, at) != byte {
+            return false;
+        }
+        if byte == b' ' {
+            return true;
+        }
+    }
+    false
+}
+
+pub fn name_length(kind: usize) -> usize
+    requires { ⌜ kind < 23 ⌝ }
+    ensures { λ r. ⌜ r ≤ 12 ⌝ }
+{
+    for at in 0..WIDTH {
+        if NAMES[kind][at] == b' ' {
+            return at;
+        }
+    }
+    WIDTH
+}
+
+pub fn write_name(kind: usize)
+    requires { ⌜ kind < 23 ⌝ }
+{
+    let name = NAMES[kind];
+    write_front(&name, name_length(kind));
+}
+
+fn write_front(name: &[u8; WIDTH], length: usize)
+    requires { ⌜ length ≤ 12 ⌝ }
+{
+    let whole: &[u8] = name;
+    io::write_all(STDOUT_FILENO, &whole[..length]);
+}
+
+// How many words a number of an order is.
+pub fn number_words(order: usize) -> usize
+    ensures { λ r. ⌜ r ≤ 16 ⌝ }
+{
+    match order {
+        1 => 2,
+        2 => 4,
+        3 => 8,
+        _ => 16,
+    }
+}
+
+// How many words the operands are, where a number is `size` words.
+pub fn operand_words(kind: usize, size: usize) -> usize
+    requires { ⌜ size ≤ 16 ⌝ }
+    ensures { λ r. ⌜ r ≤ 32 ⌝ }
+{
+    match kind {
+        ZERO | ONE => 0,
+        CONSTANT | VAR => 1,
+        READS | NEG | ABS => size,
+        ADD | SUB | MUL | DIV | REM | MAX_VAL | MIN_VAL | COMPARE => 2 * size,
+        _ => size + 1,
+    }
+}
+
+// How many words the answer is.
+pub fn answer_words(kind: usize, order: usize, size: usize) -> usize
+    requires { ⌜ (order ≤ 4) × (size ≤ 16) ⌝ }
+    ensures { λ r. ⌜ r ≤ 16 ⌝ }
+{
+    match kind {
+        READS => order + 1,
+        COMPARE | COMPARE_F64 => 1,
+        _ => size,
+    }
+}
+
+// Where the plain number stands among the words of a case that has one.
+pub fn plain_at(kind: usize, size: usize) -> usize
+    requires { ⌜ size ≤ 16 ⌝ }
+    ensures { λ r. ⌜ r ≤ 16 ⌝ }
+{
+    match kind {
+        CONSTANT | VAR => 0,
+        _ => size,
+    }
+}

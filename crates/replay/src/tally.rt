@@ -1,0 +1,53 @@
+// What is counted of a list. A count stops at its largest number, which no list reaches.
+use crate::kinds::KINDS;
+ghost use Prim.Native.Nat.{_<_};
+
+pub struct Tally {
+    pub lines: u64,
+    pub malformed: u64,
+    pub cases: [u64; KINDS],
+    pub differ: [u64; KINDS],
+}
+
+impl Tally {
+    pub fn empty() -> Tally {
+        Tally {
+            lines: 0,
+            malformed: 0,
+            cases: [0; KINDS],
+            differ: [0; KINDS],
+        }
+    }
+
+    pub fn next_line(mut self) -> Tally {
+        self.lines = one_more(self.lines);
+        self
+    }
+
+    pub fn not_a_case(mut self) -> Tally {
+        self.malformed = one_more(self.malformed);
+        self
+    }
+
+    pub fn agrees(mut self, kind: usize) -> Tally
+        requires { ⌜ kind < 23 ⌝ }
+    {
+        let cases = self.cases[kind];
+        self.cases[kind] = one_more(cases);
+        self
+    }
+
+    pub fn differs(mut self, kind: usize) -> Tally
+        requires { ⌜ kind < 23 ⌝ }
+    {
+        let cases = self.cases[kind];
+        let differ = self.differ[kind];
+        self.cases[kind] = one_more(cases);
+        self.differ[kind] = one_more(differ);
+        self
+    }
+}
+
+fn one_more(count: u64) -> u64 {
+    if count < u64::MAX { count + 1 } else { count }
+}
