@@ -17,7 +17,7 @@ ghost use Prim.Native.Nat.{_+_, _*_, _≤_, _<_};
 const PLACES: usize = DIGITS + 1;
 
 // Carries the line out, tells a difference or that it is no case, and counts it.
-pub fn replay(list: &[u8], order: usize, line: &[u8], before: Tally) -> Tally
+pub(crate) fn replay(list: &[u8], order: usize, line: &[u8], before: Tally) -> Tally
     requires { ⌜ order ≤ 4 ⌝ }
 {
     let tally = before.next_line();

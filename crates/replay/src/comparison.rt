@@ -2,7 +2,15 @@
 use forward::Ordering;
 
 // Rust's six comparisons, a digit each, and its partial_cmp as the last digit.
-pub fn compared(eq: bool, ne: bool, lt: bool, le: bool, gt: bool, ge: bool, how: Ordering) -> u64 {
+pub(crate) fn compared(
+    eq: bool,
+    ne: bool,
+    lt: bool,
+    le: bool,
+    gt: bool,
+    ge: bool,
+    how: Ordering,
+) -> u64 {
     let mut digits = eq as u64;
     digits = digits << 4 | ne as u64;
     digits = digits << 4 | lt as u64;

@@ -82,7 +82,7 @@ const NAMES: [[u8; WIDTH]; KINDS] = [
 ];
 
 // The kind whose name starts the line, or KINDS.
-pub fn kind_of(line: &[u8]) -> usize
+pub(crate) fn kind_of(line: &[u8]) -> usize
     ensures { λ r. ⌜ r ≤ 23 ⌝ }
 {
     for kind in 0..KINDS {
@@ -108,7 +108,7 @@ fn is_named(line: &[u8], kind: usize) -> bool
     false
 }
 
-pub fn name_length(kind: usize) -> usize
+pub(crate) fn name_length(kind: usize) -> usize
     requires { ⌜ kind < 23 ⌝ }
     ensures { λ r. ⌜ r ≤ 12 ⌝ }
 {
@@ -120,7 +120,7 @@ pub fn name_length(kind: usize) -> usize
     WIDTH
 }
 
-pub fn write_name(kind: usize)
+pub(crate) fn write_name(kind: usize)
     requires { ⌜ kind < 23 ⌝ }
 {
     let name = NAMES[kind];
@@ -135,7 +135,7 @@ fn write_front(name: &[u8; WIDTH], length: usize)
 }
 
 // How many words a number of an order is.
-pub fn number_words(order: usize) -> usize
+pub(crate) fn number_words(order: usize) -> usize
     ensures { λ r. ⌜ r ≤ 16 ⌝ }
 {
     match order {
@@ -147,7 +147,7 @@ pub fn number_words(order: usize) -> usize
 }
 
 // How many words the operands are, where a number is `size` words.
-pub fn operand_words(kind: usize, size: usize) -> usize
+pub(crate) fn operand_words(kind: usize, size: usize) -> usize
     requires { ⌜ size ≤ 16 ⌝ }
     ensures { λ r. ⌜ r ≤ 32 ⌝ }
 {
@@ -161,7 +161,7 @@ pub fn operand_words(kind: usize, size: usize) -> usize
 }
 
 // How many words the answer is.
-pub fn answer_words(kind: usize, order: usize, size: usize) -> usize
+pub(crate) fn answer_words(kind: usize, order: usize, size: usize) -> usize
     requires { ⌜ (order ≤ 4) × (size ≤ 16) ⌝ }
     ensures { λ r. ⌜ r ≤ 16 ⌝ }
 {
@@ -173,7 +173,7 @@ pub fn answer_words(kind: usize, order: usize, size: usize) -> usize
 }
 
 // Where the plain number stands among the words of a case that has one.
-pub fn plain_at(kind: usize, size: usize) -> usize
+pub(crate) fn plain_at(kind: usize, size: usize) -> usize
     requires { ⌜ size ≤ 16 ⌝ }
     ensures { λ r. ⌜ r ≤ 16 ⌝ }
 {

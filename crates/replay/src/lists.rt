@@ -14,7 +14,7 @@ struct Progress {
 }
 
 // Replays the file, which the list is named after, at an order.
-pub fn replay(list: &[u8], order: usize, file: i32)
+pub(crate) fn replay(list: &[u8], order: usize, file: i32)
     requires { ⌜ order ≤ 4 ⌝ }
 {
     if file < 0 {

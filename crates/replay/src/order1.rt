@@ -12,7 +12,7 @@ ghost use Prim.Native.Nat.{_+_, _≤_};
 const SIZE: usize = 2;
 
 // The first words of `got` become the answer.
-pub fn carry_out(kind: usize, case: &Case, got: &mut Answer) {
+pub(crate) fn carry_out(kind: usize, case: &Case, got: &mut Answer) {
     let x = from_words(case, 0);
     let y = from_words(case, SIZE);
     let at = plain_at(kind, SIZE);
@@ -79,7 +79,7 @@ fn compare_f64(x: Fwd1, k: f64) -> u64 {
     )
 }
 
-pub fn from_words(case: &Case, at: usize) -> Fwd1
+pub(crate) fn from_words(case: &Case, at: usize) -> Fwd1
     requires { ⌜ at + 2 ≤ 48 ⌝ }
 {
     Fwd1 {
@@ -88,7 +88,7 @@ pub fn from_words(case: &Case, at: usize) -> Fwd1
     }
 }
 
-pub fn to_words(x: Fwd1, got: &mut Answer, at: usize)
+pub(crate) fn to_words(x: Fwd1, got: &mut Answer, at: usize)
     requires { ⌜ at + 2 ≤ 16 ⌝ }
 {
     got[at] = word_of(x.val);

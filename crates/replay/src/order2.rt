@@ -13,7 +13,7 @@ ghost use Prim.Native.Nat.{_+_, _≤_};
 const SIZE: usize = 4;
 
 // The first words of `got` become the answer.
-pub fn carry_out(kind: usize, case: &Case, got: &mut Answer) {
+pub(crate) fn carry_out(kind: usize, case: &Case, got: &mut Answer) {
     let x = from_words(case, 0);
     let y = from_words(case, SIZE);
     let at = plain_at(kind, SIZE);
@@ -81,7 +81,7 @@ fn compare_f64(x: Fwd2, k: f64) -> u64 {
     )
 }
 
-pub fn from_words(case: &Case, at: usize) -> Fwd2
+pub(crate) fn from_words(case: &Case, at: usize) -> Fwd2
     requires { ⌜ at + 4 ≤ 48 ⌝ }
 {
     Fwd2 {
@@ -90,7 +90,7 @@ pub fn from_words(case: &Case, at: usize) -> Fwd2
     }
 }
 
-pub fn to_words(x: Fwd2, got: &mut Answer, at: usize)
+pub(crate) fn to_words(x: Fwd2, got: &mut Answer, at: usize)
     requires { ⌜ at + 4 ≤ 16 ⌝ }
 {
     order1::to_words(x.val, got, at);

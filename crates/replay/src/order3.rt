@@ -13,7 +13,7 @@ ghost use Prim.Native.Nat.{_+_, _≤_};
 const SIZE: usize = 8;
 
 // The first words of `got` become the answer.
-pub fn carry_out(kind: usize, case: &Case, got: &mut Answer) {
+pub(crate) fn carry_out(kind: usize, case: &Case, got: &mut Answer) {
     let x = from_words(case, 0);
     let y = from_words(case, SIZE);
     let at = plain_at(kind, SIZE);
@@ -82,7 +82,7 @@ fn compare_f64(x: Fwd3, k: f64) -> u64 {
     )
 }
 
-pub fn from_words(case: &Case, at: usize) -> Fwd3
+pub(crate) fn from_words(case: &Case, at: usize) -> Fwd3
     requires { ⌜ at + 8 ≤ 48 ⌝ }
 {
     Fwd3 {
@@ -91,7 +91,7 @@ pub fn from_words(case: &Case, at: usize) -> Fwd3
     }
 }
 
-pub fn to_words(x: Fwd3, got: &mut Answer, at: usize)
+pub(crate) fn to_words(x: Fwd3, got: &mut Answer, at: usize)
     requires { ⌜ at + 8 ≤ 16 ⌝ }
 {
     order2::to_words(x.val, got, at);

@@ -13,7 +13,7 @@ ghost use Prim.Native.Nat.{_+_, _≤_};
 const SIZE: usize = 16;
 
 // The first words of `got` become the answer.
-pub fn carry_out(kind: usize, case: &Case, got: &mut Answer) {
+pub(crate) fn carry_out(kind: usize, case: &Case, got: &mut Answer) {
     let x = from_words(case, 0);
     let y = from_words(case, SIZE);
     let at = plain_at(kind, SIZE);

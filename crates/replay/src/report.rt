@@ -7,23 +7,23 @@ use crate::words::DIGITS;
 use libc::STDOUT_FILENO;
 ghost use Prim.Native.Nat.{_≤_, _<_};
 
-pub fn text(bytes: &[u8]) {
+pub(crate) fn text(bytes: &[u8]) {
     io::write_all(STDOUT_FILENO, bytes);
 }
 
 // That the list's file cannot be opened, or not be read to its end.
-pub fn unreadable(list: &[u8]) {
+pub(crate) fn unreadable(list: &[u8]) {
     text(list);
     text(b".txt: cannot be read\n");
 }
 
-pub fn not_a_case(list: &[u8], line: u64) {
+pub(crate) fn not_a_case(list: &[u8], line: u64) {
     place(list, line);
     text(b"not a case\n");
 }
 
 // The first `count` of the words that the port got.
-pub fn difference(list: &[u8], line: u64, kind: usize, got: &Answer, count: usize)
+pub(crate) fn difference(list: &[u8], line: u64, kind: usize, got: &Answer, count: usize)
     requires { ⌜ (kind < 23) × (count ≤ 16) ⌝ }
 {
     place(list, line);
@@ -53,7 +53,7 @@ fn place(list: &[u8], line: u64) {
     text(b": ");
 }
 
-pub fn summary(list: &[u8], tally: Tally) {
+pub(crate) fn summary(list: &[u8], tally: Tally) {
     each_kind(list, tally);
     text(list);
     text(b" malformed=");

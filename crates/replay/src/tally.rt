@@ -10,7 +10,7 @@ pub struct Tally {
 }
 
 impl Tally {
-    pub fn empty() -> Tally {
+    pub(crate) fn empty() -> Tally {
         Tally {
             lines: 0,
             malformed: 0,
@@ -19,17 +19,17 @@ impl Tally {
         }
     }
 
-    pub fn next_line(mut self) -> Tally {
+    pub(crate) fn next_line(mut self) -> Tally {
         self.lines = one_more(self.lines);
         self
     }
 
-    pub fn not_a_case(mut self) -> Tally {
+    pub(crate) fn not_a_case(mut self) -> Tally {
         self.malformed = one_more(self.malformed);
         self
     }
 
-    pub fn agrees(mut self, kind: usize) -> Tally
+    pub(crate) fn agrees(mut self, kind: usize) -> Tally
         requires { ⌜ kind < 23 ⌝ }
     {
         let cases = self.cases[kind];
@@ -37,7 +37,7 @@ impl Tally {
         self
     }
 
-    pub fn differs(mut self, kind: usize) -> Tally
+    pub(crate) fn differs(mut self, kind: usize) -> Tally
         requires { ⌜ kind < 23 ⌝ }
     {
         let cases = self.cases[kind];

@@ -26,12 +26,12 @@ pub struct Word {
 }
 
 // The byte at an index, and past the end one that stands in no case.
-pub fn byte_at(line: &[u8], at: usize) -> u8 {
+pub(crate) fn byte_at(line: &[u8], at: usize) -> u8 {
     if at < line.len() { line[at] } else { 0 }
 }
 
 // The word whose first digit stands at `from`.
-pub fn read_word(line: &[u8], from: usize) -> Word
+pub(crate) fn read_word(line: &[u8], from: usize) -> Word
     requires { do ⌜ from + 16 ≤ (← ⟦line.len()⟧) ⌝ }
 {
     let mut bits = 0;
@@ -66,11 +66,11 @@ fn is_nan(bits: u64) -> bool
 }
 
 // The bits by which two words are compared.
-pub fn one_nan(bits: u64) -> u64 {
+pub(crate) fn one_nan(bits: u64) -> u64 {
     if is_nan(bits) { NAN } else { bits }
 }
 
-pub fn float_of(bits: u64) -> f64 {
+pub(crate) fn float_of(bits: u64) -> f64 {
     if is_nan(bits) {
         0.0 / 0.0
     } else {
@@ -78,6 +78,6 @@ pub fn float_of(bits: u64) -> f64 {
     }
 }
 
-pub fn word_of(x: f64) -> u64 {
+pub(crate) fn word_of(x: f64) -> u64 {
     if x != x { NAN } else { f64::to_bits(x) }
 }
