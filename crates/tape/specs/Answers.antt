@@ -1,0 +1,56 @@
+-- What a call returns, as document 01 has it: a number, a value, a handle and a count. Number 0 is an answer; the others are the refusals, in the order in which they are tested.
+use Prim.Native.Nat.{ℕ}
+use mathlib.Core.Path.{_≡_}
+use mathlib.Core.Option.{Option, none, some}
+use Rattle.tape.specs.Numbers.{Numbers, floats}
+use Rattle.tape.specs.Machine.{Arrays, Machine, machine}
+use Rattle.tape.specs.declared.errors.Refusal.{Refusal}
+use Rattle.tape.specs.declared.errors.Refusal.the-variants.{Misshapen, UnknownOperation, NotLive, Detached, Full, SerialsSpent, UnsoundEdge, ListingTooLong}
+use Rattle.tape.specs.declared.node.Handle.{Handle}
+use Rattle.tape.specs.declared.state.Moved.{Moved}
+use Rattle.tape.specs.declared.state.Moved.the-variants.{Done, Refused}
+
+abbrev pub number : Refusal → ℕ
+number Misshapen = 1
+number UnknownOperation = 2
+number NotLive = 3
+number Detached = 4
+number Full = 5
+number SerialsSpent = 6
+number UnsoundEdge = 7
+number ListingTooLong = 8
+
+pub record Answer (N : Numbers) : Type 0 where
+  pub number : ℕ
+  pub value : N .Number
+  pub handle : Option Handle
+  pub count : ℕ
+
+abbrev pub answer : {N : Numbers} → ℕ → N .Number → Option Handle → ℕ → Answer N
+answer k v h n = record { number = k; value = v; handle = h; count = n }
+
+-- a refusal returns its number, value +0.0, no handle and count 0
+abbrev pub refused : {N : Numbers} → Refusal → Answer N
+refused {N} r = answer (number r) (N .nought) none 0
+
+-- start, stop, marks and rewinds: nothing but that it was done
+abbrev pub done : {N : Numbers} → Answer N
+done {N} = answer 0 (N .nought) none 0
+
+-- a value that stands on no tape
+abbrev pub detached : {N : Numbers} → N .Number → Answer N
+detached v = answer 0 v none 0
+
+-- a value and its node's handle
+abbrev pub recorded : {N : Numbers} → N .Number → Handle → Answer N
+recorded v h = answer 0 v (some h) 0
+
+-- what the code's answer to a start, stop, mark or rewind says, for whatever arrays the caller keeps beside the state
+abbrev pub outcome : Moved → Arrays floats → Answer floats × Machine floats
+outcome (Done t) A = (done, machine t A)
+outcome (Refused r t) A = (refused r, machine t A)
+
+-- no two of the code's answers say the same, and no two refusals have one number. Proved in proofs/OneToOne.antt
+pub record Told : Type 0 where
+  pub numbers : (r s : Refusal) → number r ≡ number s → r ≡ s
+  pub moves : (x y : Moved) (A : Arrays floats) → outcome x A ≡ outcome y A → x ≡ y

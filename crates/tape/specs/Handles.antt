@@ -1,0 +1,42 @@
+-- Handles, and what a caller carries: a plain number or a handle.
+use Prim.Native.Nat.{ℕ}
+use mathlib.Core.Bool.{Bool, true, false, not, _&&_, cond}
+use mathlib.Core.List.{List, [], _∷_}
+use lib.Dec.{ltb, eqb}
+use lib.ListN.{getD}
+use Rattle.tape.specs.Numbers.{Numbers, floats}
+use Rattle.tape.specs.Machine.{Machine, all}
+use Rattle.tape.specs.declared.node.Handle.{Handle}
+use Rattle.tape.specs.declared.node.Lookup.{Lookup}
+use Rattle.tape.specs.declared.node.Lookup.the-variants.{Live, NotLive}
+use Rattle.tape.specs.declared.node.Operand as code
+
+-- its index is below the length, its serial is not 0, and the serial stored at that index is the same
+abbrev pub lives : ℕ → List ℕ → Handle → Bool
+lives length serials h = all (ltb (h .index) length ∷ not (eqb (h .serial) 0) ∷ eqb (getD serials (h .index) 0) (h .serial) ∷ [])
+
+abbrev pub looked-up : ℕ → List ℕ → Handle → Lookup
+looked-up length serials h = cond (lives length serials h) Live NotLive
+
+abbrev pub live : {N : Numbers} → Machine N → Handle → Bool
+live M h = lives (M .state .length) (M .lent .serial) h
+
+pub data Operand (N : Numbers) : Type 0 where
+  plain : N .Number → Operand N
+  node : Handle → Operand N
+
+-- the code's operand
+abbrev pub operand : code.Operand → Operand floats
+operand (code.the-variants.Number x) = plain x
+operand (code.the-variants.Node h) = node h
+
+-- a plain number is its value; a handle's value is read from the tape
+abbrev pub worth : {N : Numbers} → Machine N → Operand N → N .Number
+worth M (plain x) = x
+worth {N} M (node h) = getD (M .lent .value) (h .index) (N .blank)
+
+-- the handles among some operands
+abbrev pub handles : {N : Numbers} → List (Operand N) → List Handle
+handles [] = []
+handles (plain x ∷ os) = handles os
+handles (node h ∷ os) = h ∷ handles os

@@ -1,0 +1,35 @@
+-- What a tape computes with. Everything below is stated over any such numbers, and no law of them is assumed; the tape of document 01 is over `floats`.
+use mathlib.Core.Bool.{Bool}
+use lib.Ieee.{Float, nan, binary64, ofBits, add, sub, mul, div, lt, le}
+
+pub record Numbers : Type 1 where
+  pub Number : Type 0
+  pub plus : Number → Number → Number
+  pub minus : Number → Number → Number
+  pub times : Number → Number → Number
+  pub over : Number → Number → Number
+  pub nought : Number
+  pub one : Number
+  -- < and <=, of the values
+  pub less : Number → Number → Bool
+  pub at-most : Number → Number → Bool
+  -- what is done to a partial before it is stored
+  pub stored : Number → Number
+  -- what a read past the end of an array would give; no call makes one
+  pub blank : Number
+
+-- IEEE 754 binary64. `nought` is +0.0, `one` is 1.0, and a partial is stored as it is
+abbrev pub floats : Numbers
+floats = record {
+  Number = Float;
+  plus = add binary64;
+  minus = sub binary64;
+  times = mul binary64;
+  over = div binary64;
+  nought = ofBits binary64 0;
+  one = ofBits binary64 0x3ff0_0000_0000_0000;
+  less = lt;
+  at-most = le;
+  stored = λ p. p;
+  blank = nan;
+}

@@ -1,0 +1,32 @@
+// Refusals: why a call was not carried out. Each has its number in document 01's list.
+ghost use mathlib.Core.Path.{_≡_};
+ghost use Rattle.tape.specs.Answers.{number};
+
+pub enum Refusal {
+    Misshapen,
+    UnknownOperation,
+    NotLive,
+    Detached,
+    Full,
+    SerialsSpent,
+    UnsoundEdge,
+    ListingTooLong,
+}
+
+impl Refusal {
+    // The refusal's number, 1 to 8.
+    pub fn number(self) -> u8
+        ensures { λ x. ⌜ x ≡ number self ⌝ }
+    {
+        match self {
+            Refusal::Misshapen => 1,
+            Refusal::UnknownOperation => 2,
+            Refusal::NotLive => 3,
+            Refusal::Detached => 4,
+            Refusal::Full => 5,
+            Refusal::SerialsSpent => 6,
+            Refusal::UnsoundEdge => 7,
+            Refusal::ListingTooLong => 8,
+        }
+    }
+}

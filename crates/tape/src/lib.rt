@@ -1,0 +1,14 @@
+// The tape: its small state, handles to its nodes, refusals, and what every call tests of the arrays it is lent.
+//
+// specs/ hold document 01's machine, of which each public call, here and in the crates above, carries out one step.
+pub mod errors;
+pub mod node;
+pub mod state;
+
+pub use errors::Refusal;
+pub use node::Handle;
+pub use node::Lookup;
+pub use node::Operand;
+pub use state::Alloc;
+pub use state::Moved;
+pub use state::Tape;
