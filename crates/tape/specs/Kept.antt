@@ -57,7 +57,7 @@ serials (a ∷ rest) = serial-of (a .handle) (serials rest)
 
 -- each at least k and above those before it
 abbrev pub Ascending : ℕ → List ℕ → Type 0
-Ascending k [] = ⊤
+Ascending k [] = Unit {0}
 Ascending k (s ∷ ss) = (k ≤ s) × Ascending (s + 1) ss
 
 pub record Serials : Type 1 where
