@@ -61,20 +61,19 @@ issued t = record { index = t .length; serial = t .next }
 abbrev pub grown : Tape → Tape
 grown t = record { length = t .length + 1; mark = t .mark; active = t .active; next = t .next + 1 }
 
--- the node is written at that index, its adjoint +0.0, its edges from its slot on; edge slots that it does not use keep what they held
+-- the arrays once the node is written at that index, its adjoint +0.0, its edges from its slot on; edge slots that it does not use keep what they held
+abbrev pub with-node : {N : Numbers} → Handle → Arrays N → N .Number → List (Edge N) → Arrays N
+with-node {N} h A v es =
+    arrays
+    (set (A .value) (h .index) v)
+    (set (A .adjoint) (h .index) (N .nought))
+    (set (A .serial) (h .index) (h .serial))
+    (set (A .count) (h .index) (length es))
+    (sets (A .child) (slot (h .index)) (map (λ e. e .child) es))
+    (sets (A .partial) (slot (h .index)) (map (λ e. e .weight) es))
+
 abbrev pub written : {N : Numbers} → Machine N → N .Number → List (Edge N) → Machine N
-written {N} M v es =
-    let i = M .state .length in
-    let A = M .lent in
-    machine
-    (grown (M .state))
-    (arrays
-    (set (A .value) i v)
-    (set (A .adjoint) i (N .nought))
-    (set (A .serial) i (M .state .next))
-    (set (A .count) i (length es))
-    (sets (A .child) (slot i) (map (λ e. e .child) es))
-    (sets (A .partial) (slot i) (map (λ e. e .weight) es)))
+written M v es = machine (grown (M .state)) (with-node (issued (M .state)) (M .lent) v es)
 
 -- ---- refusals
 

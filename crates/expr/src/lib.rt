@@ -1,0 +1,9 @@
+// Recording: operation numbers and operands in place of the Rust's typed expressions, each operation flattened at once.
+//
+// `record` takes any operation by its number; `operators` has a call for each one.
+pub mod operations;
+pub mod recording;
+
+pub use operations::Row;
+pub use operations::Supplied;
+pub use recording::Recorded;

@@ -1,0 +1,71 @@
+// The operations table, with no tape in it.
+ghost use mathlib.Core.Path.{_≡_};
+ghost use mathlib.Core.Bool.{cond};
+ghost use Rattle.tape.specs.Operations.{known, apply};
+ghost use Rattle.expr.specs.Table.{given, told-row, uses-of};
+
+// What the host supplies for operations 8 and 9.
+pub struct Supplied {
+    pub value: f64,
+    pub left: f64,
+    pub right: f64,
+}
+
+// A row of the table: the value, and as many partials as the operation has operands with an edge.
+pub enum Row {
+    Unknown,
+    Leaf(f64),
+    One(f64, f64),
+    Two(f64, f64, f64),
+}
+
+// The row of operation op for operands worth l and r.
+pub fn apply(op: u8, l: f64, r: f64, supplied: Supplied) -> Row
+    ensures { λ x. ⌜ told-row x ≡ (known op, apply op l r (given supplied)) ⌝ }
+{
+    match op {
+        0 => Row::Leaf(l),
+        1 => Row::Two(l + r, 1.0, 1.0),
+        2 => Row::Two(l - r, 1.0, 0.0 - 1.0),
+        3 => Row::Two(l * r, r, l),
+        4 => Row::Two(l / r, 1.0 / r, 0.0 - l / (r * r)),
+        5 => Row::Two(either(l >= r, l, r), either(l > r, 1.0, 0.0), either(r > l, 1.0, 0.0)),
+        6 => Row::Two(either(l <= r, l, r), either(l < r, 1.0, 0.0), either(r < l, 1.0, 0.0)),
+        7 => Row::One(0.0 - l, 0.0 - 1.0),
+        8 => Row::One(supplied.value, supplied.left),
+        9 => Row::Two(supplied.value, supplied.left, supplied.right),
+        10..=255 => Row::Unknown,
+    }
+}
+
+// Which operands an operation uses.
+pub enum Uses {
+    Unknown,
+    Left,
+    Both,
+}
+
+// Operations 0, 7 and 8 use the left operand alone.
+pub fn used(op: u8) -> Uses
+    ensures { λ x. ⌜ x ≡ uses-of op ⌝ }
+{
+    match op {
+        0 => Uses::Left,
+        1 => Uses::Both,
+        2 => Uses::Both,
+        3 => Uses::Both,
+        4 => Uses::Both,
+        5 => Uses::Both,
+        6 => Uses::Both,
+        7 => Uses::Left,
+        8 => Uses::Left,
+        9 => Uses::Both,
+        10..=255 => Uses::Unknown,
+    }
+}
+
+fn either(test: bool, a: f64, b: f64) -> f64
+    ensures { λ x. ⌜ x ≡ cond test a b ⌝ }
+{
+    if test { a } else { b }
+}
