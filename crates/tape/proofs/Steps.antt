@@ -1,11 +1,11 @@
 -- What a step does. Everything is read off `step`'s table of refusals and off `carried`.
 use Prim.Native.Nat.{ℕ, suc, _+_, _*_, _≤_, _<_}
 use native.Mathlib.Omega.{arith}
-use mathlib.Core.Path.{_≡_, refl, ap, subst}
-use mathlib.Core.Bool.{Bool, true, false, not, _&&_, _||_, cond, and-eq-true-iff}
+use mathlib.Core.Path.{_≡_, refl, sym, ap, subst}
+use mathlib.Core.Bool.{Bool, true, false, not, _&&_, _||_, cond, and-eq-true-iff, true≢false}
 use mathlib.Core.List.{List, [], _∷_, _++_, map, append-nil}
 use mathlib.Core.Option.{Option, none, some}
-use borrow.Author.Tests.{ltb-true, leb-true, eqb-true, eqb-false, lt-ltb, not-true, not-false}
+use borrow.Author.Tests.{ltb-true, leb-true, eqb-true, eqb-false, lt-ltb, eq-eqb, ne-eqb, not-true, not-false}
 use lib.Dec.{leb, ltb, eqb}
 use lib.ListN.{length, getD}
 use Rattle.tape.specs.Numbers.{Numbers}
@@ -53,3 +53,81 @@ by-refusal P c M hit passed =
     by-test P _ (λ _. hit Full) (λ room.
     by-test P _ (λ _. hit SerialsSpent) (λ serial.
     passed (record { shape = not-false _ shape; known = known; all-live = all-live; room = room; serial = serial }))))))
+
+-- what refusal 1 leaves, with the arrays lent and without
+record StateFits (n : ℕ) (t : Tape) : Type 0 where
+  length : t .length ≤ n
+  mark : t .mark ≤ t .length
+  next : t .next ≡ 0 → ⊥
+
+state-ok : (n : ℕ) (t : Tape) → Every (state-fits n t) → StateFits n t
+state-ok n t (l, (m, (s, _))) = record { length = leb-true _ _ l; mark = leb-true _ _ m; next = eqb-false _ _ (not-true _ s) }
+
+-- a machine that has room for a node
+pub record Ready {N : Numbers} (M : Machine N) : Type 0 where
+  pub room : M .state .length < capacity (M .lent)
+  pub serial : length (M .lent .serial) ≡ capacity (M .lent)
+  pub count : length (M .lent .count) ≡ capacity (M .lent)
+  pub child : length (M .lent .child) ≡ slot (capacity (M .lent))
+  pub next : M .state .next ≡ 0 → ⊥
+
+ready : {N : Numbers} (M : Machine N) → fits true M ≡ true → eqb (M .state .length) (capacity (M .lent)) ≡ false → Ready M
+ready M shape room =
+    let (_, (_, (s, (c, (h, (_, state)))))) = every (arrays-fit (M .lent) ++ state-fits (capacity (M .lent)) (M .state)) shape in
+    let ok : StateFits (capacity (M .lent)) (M .state) = state-ok _ _ state in
+    record { room = omega (arith, eqb-false (M .state .length) (capacity (M .lent)) room); serial = eqb-true _ _ s; count = eqb-true _ _ c; child = eqb-true _ _ h; next = ok .next }
+
+-- ---- live handles
+
+pub record Lives (n : ℕ) (ss : List ℕ) (h : Handle) : Type 0 where
+  pub below : h .index < n
+  pub serial : h .serial ≡ 0 → ⊥
+  pub same : getD ss (h .index) 0 ≡ h .serial
+
+pub lives-told : (n : ℕ) (ss : List ℕ) (h : Handle) → lives n ss h ≡ true → Lives n ss h
+lives-told n ss h e =
+    let (i, (s, (q, _))) = every (ltb (h .index) n ∷ not (eqb (h .serial) 0) ∷ eqb (getD ss (h .index) 0) (h .serial) ∷ []) e in
+    record { below = ltb-true _ _ i; serial = eqb-false _ _ (not-true _ s); same = eqb-true _ _ q }
+
+pub lives-so : (n : ℕ) (ss : List ℕ) (h : Handle) → Lives n ss h → lives n ss h ≡ true
+lives-so n ss h l = simp (lt-ltb _ _ (l .below), ne-eqb _ _ (l .serial), eq-eqb _ _ (l .same))
+
+-- ---- edges
+
+-- at most k edges, each to a node below n
+pub record Edges {N : Numbers} (n k : ℕ) (es : List (Edge N)) : Type 0 where
+  pub few : length es ≤ k
+  pub below : all (map (λ c. ltb c n) (map (λ e. e .child) es)) ≡ true
+
+or-false : (a b : Bool) → a || b ≡ false → (a ≡ false) × (b ≡ false)
+or-false true b e = (e, absurd (true≢false e))
+or-false false b e = (refl, e)
+
+module _ {N : Numbers} (M : Machine N) where
+  edge-ok : (o : Operand N) (p : Option (N .Number)) (os : List (Operand N)) (es : List (Edge N)) (k : ℕ) → any-stale M (handles (o ∷ os)) ≡ false → (any-stale M (handles os) ≡ false → Edges (M .state .length) k es) → Edges (M .state .length) (suc k) (edge o p ++ es)
+  edge-ok (plain x) p os es k e rest = let r = rest e in record { few = omega arith; below = r .below }
+  edge-ok (node h) none os es k e rest = let r = rest (or-false (not (live M h)) _ e .1) in record { few = omega arith; below = r .below }
+  edge-ok (node h) (some p) os es k e rest =
+      let r = rest (or-false (not (live M h)) _ e .1) in
+      let l = lives-told _ (M .lent .serial) h (not-false (live M h) (or-false _ _ e .0)) in
+      record { few = omega arith; below = rw (lt-ltb _ _ (l .below)) (r .below) }
+
+  no-edges : Edges {N = N} (M .state .length) 0 []
+  no-edges = record { few = omega arith; below = refl }
+
+  no-partial : (o : Operand N) → edge o none ≡ []
+  no-partial (plain x) = refl
+  no-partial (node h) = refl
+
+  both-ok : (b : Bool) (left right : Operand N) (p q : Option (N .Number)) → (b ≡ true → q ≡ none) → any-stale M (handles (cond b (left ∷ []) (left ∷ right ∷ []))) ≡ false → Edges (M .state .length) 2 (edge left p ++ edge right q)
+  both-ok true left right p q alone e = rw (alone refl, no-partial right) (edge-ok left p [] [] 1 e (λ _. record { few = omega arith; below = refl }))
+  both-ok false left right p q alone e =
+      edge-ok left p (right ∷ []) (edge right q) 1 e (λ e′. rw append-nil at (edge-ok right q [] [] 0 e′ (λ _. no-edges)))
+
+by-or : {P : Type 0} (a b : Bool) → (a ≡ true → P) → (b ≡ true → P) → a || b ≡ true → P
+by-or true b f g e = f refl
+by-or false b f g e = g e
+
+-- the operations that use the left operand alone have no right partial
+alone : {N : Numbers} (op : ℕ) (l r : N .Number) (g : Given N) → one-sided op ≡ true → apply op l r g .right ≡ none
+alone op l r g = by-or _ _ (by-or _ _ (λ t. rw (eqb-true op 0 t)) (λ t. rw (eqb-true op 7 t))) (λ t. rw (eqb-true op 8 t))
