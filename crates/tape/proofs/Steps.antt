@@ -1,6 +1,8 @@
 -- What a step does. Everything is read off `step`'s table of refusals and off `carried`.
-use Prim.Native.Nat.{ℕ, suc, _+_, _*_, _≤_, _<_}
+use Prim.Native.Nat.{ℕ, suc, _+_, _≤_, _<_, zero-le}
+use native.Mathlib.Nat.{le-refl}
 use native.Mathlib.Omega.{arith}
+use native.Mathlib.Decide.{decLt}
 use mathlib.Core.Path.{_≡_, refl, sym, ap, subst}
 use mathlib.Core.Bool.{Bool, true, false, not, _&&_, _||_, cond, and-eq-true-iff, true≢false}
 use mathlib.Core.List.{List, [], _∷_, _++_, map, append-nil}
@@ -131,3 +133,43 @@ by-or false b f g e = g e
 -- the operations that use the left operand alone have no right partial
 alone : {N : Numbers} (op : ℕ) (l r : N .Number) (g : Given N) → one-sided op ≡ true → apply op l r g .right ≡ none
 alone op l r g = by-or _ _ (by-or _ _ (λ t. rw (eqb-true op 0 t)) (λ t. rw (eqb-true op 7 t))) (λ t. rw (eqb-true op 8 t))
+
+-- ---- what a step leaves
+
+-- Nothing but adjoints and the state without its serial, at no greater length and with no handle answered; or one node more.
+-- A call that writes adjoints or nothing is the first of these, so all that is shown from this holds for it as well
+pub data Effect {N : Numbers} (M : Machine N) : Answer N × Machine N → Type 0 where
+  keeps : {number : ℕ} {value : N .Number} {count : ℕ} {length mark : ℕ} {active : Bool} {adjoint : List (N .Number)} → length ≤ M .state .length
+      → Effect
+      M
+      (answer number value none count, machine (record { length = length; mark = mark; active = active; next = M .state .next }) (arrays (M .lent .value) adjoint (M .lent .serial) (M .lent .count) (M .lent .child) (M .lent .partial)))
+  records : (v : N .Number) (es : List (Edge N)) → Ready M → Edges (M .state .length) 2 es → Effect M (recorded v (issued (M .state)), written M v es)
+
+move-effect : {N : Numbers} (m : Move) (M : Machine N) → M .state .mark ≤ M .state .length → Effect M (carried (move m) M)
+move-effect start M h = keeps zero-le
+move-effect stop M h = keeps (le-refl _)
+move-effect set-mark M h = keeps (le-refl _)
+move-effect reset-mark M h = keeps (le-refl _)
+move-effect rewind-to-mark M h = keeps h
+move-effect rewind-to-init M h = keeps zero-le
+
+carried-effect : {N : Numbers} (c : Call N) (M : Machine N) → Passed c M → Effect M (carried c M)
+carried-effect (move m) M p = move-effect m M (state-ok 65535 (M .state) (every (state-fits 65535 (M .state)) (p .shape)) .mark)
+carried-effect (operate op left right g) M p =
+    let s = apply op (worth M left) (worth M right) g in
+    by-test (Effect M) (M .state .active) (λ active. records (s .value) (edges left right s) (ready M (p .shape) (rw active at (p .room))) (both-ok M (one-sided op) left right (s .left) (s .right) (alone op (worth M left) (worth M right) g) (p .all-live))) (λ _. keeps (le-refl _))
+
+pub effect : {N : Numbers} (c : Call N) (M : Machine N) → Effect M (step c M)
+effect c M = by-refusal (Effect M) c M (λ r. keeps (le-refl _)) (carried-effect c M)
+
+-- what every step keeps, every sequence of calls keeps
+pub kept : {N : Numbers} (P : Machine N → Type 0) → ((M : Machine N) (x : Answer N × Machine N) → Effect M x → P M → P (x .1)) → (cs : List (Call N)) (M : Machine N) → P M → P (after cs M)
+kept P each [] M p = p
+kept P each (c ∷ cs) M p = kept P each cs (step c M .1) (each M (step c M) (effect c M) p)
+
+-- below a length that grew by one: at the new node, or below it
+pub last-or-below : (P : ℕ → Type 0) (n : ℕ) → P n → ((i : ℕ) → i < n → P i) → (i : ℕ) → i < n + 1 → P i
+last-or-below P n last below i h = either (decLt i n) where
+  either : Dec (i < n) → P i
+  either (yes l) = below i l
+  either (no g) = let e : n ≡ i = omega arith in subst P e last
