@@ -14,7 +14,7 @@ use Rattle.tape.specs.declared.node.Handle.{Handle}
 use Rattle.tape.proofs.Steps.{Effect, keeps, records, effect}
 
 module _ {N : Numbers} {M : Machine N} where
-  never-fall : {x : Answer N × Machine N} → Effect M x → M .state .next ≤ x .1 .state .next
+  pub never-fall : {x : Answer N × Machine N} → Effect M x → M .state .next ≤ x .1 .state .next
   never-fall (keeps l) = le-refl _
   never-fall (records v es r s) = omega arith
 
