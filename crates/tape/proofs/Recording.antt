@@ -5,7 +5,7 @@ use native.Mathlib.Omega.{arith}
 use mathlib.Core.Path.{_≡_, refl, ap, subst, _∙_}
 use mathlib.Core.Bool.{true, and-eq-true-iff}
 use mathlib.Core.List.{List, [], _∷_, map, append-assoc}
-use mathlib.Core.Option.{none, some, Option·some-injective}
+use mathlib.Core.Option.{some, Option·some-injective}
 use borrow.Author.Tests.{leb-true, le-leb}
 use lib.Dec.{leb, ltb}
 use lib.ListN.{length, getD, take, drop, set, length-map}
@@ -15,10 +15,10 @@ use Rattle.tape.specs.Machine.{Arrays, Machine, slot, all}
 use Rattle.tape.specs.Handles.{Operand, node, live, worth}
 use Rattle.tape.specs.Operations.{Given, apply}
 use Rattle.tape.specs.Answers.{Answer}
-use Rattle.tape.specs.Calls.{Edge, Call, move, operate, edges, issued, written, step}
+use Rattle.tape.specs.Calls.{Edge, move, operate, edges, issued, written, step}
 use Rattle.tape.specs.Kept.{Recording, SameBelow, fresh, sound}
 use Rattle.tape.specs.declared.node.Handle.{Handle}
-use Rattle.tape.proofs.Steps.{by-test, by-refusal, Ready, Edges, lives-so, Effect, keeps, records, effect, kept, last-or-below}
+use Rattle.tape.proofs.Steps.{by-test, by-refusal, lives-so, Effect, keeps, records, effect, kept, last-or-below}
 
 -- ---- a run of stores
 

@@ -1,10 +1,10 @@
 -- Serials only grow: by cases on what a step leaves.
-use Prim.Native.Nat.{ℕ, _+_, _≤_}
+use Prim.Native.Nat.{ℕ, _≤_}
 use native.Mathlib.Nat.{le-refl}
 use native.Mathlib.Omega.{arith}
-use mathlib.Core.Path.{_≡_, ap}
+use mathlib.Core.Path.{_≡_}
 use mathlib.Core.List.{List, [], _∷_}
-use mathlib.Core.Option.{none, some}
+use mathlib.Core.Option.{some}
 use Rattle.tape.specs.Numbers.{Numbers}
 use Rattle.tape.specs.Machine.{Machine}
 use Rattle.tape.specs.Answers.{Answer}

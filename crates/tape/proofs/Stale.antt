@@ -4,10 +4,10 @@ use native.Mathlib.Omega.{arith}
 use mathlib.Core.Path.{_≡_, refl, sym, _∙_}
 use mathlib.Core.Bool.{Bool, true, false, true≢false}
 use mathlib.Core.List.{List}
-use lib.ListN.{getD, set}
+use lib.ListN.{length, getD, set}
 use lib.Seq.{getD-set-same, getD-set-other}
 use Rattle.tape.specs.Numbers.{Numbers}
-use Rattle.tape.specs.Machine.{Arrays, Machine}
+use Rattle.tape.specs.Machine.{Machine}
 use Rattle.tape.specs.Handles.{live}
 use Rattle.tape.specs.Answers.{Answer}
 use Rattle.tape.specs.Calls.{Call}
@@ -16,16 +16,14 @@ use Rattle.tape.specs.declared.node.Handle.{Handle}
 use Rattle.tape.proofs.Serials.{never-fall}
 use Rattle.tape.proofs.Steps.{Effect, keeps, records, Lives, lives-told, lives-so, kept, last-or-below}
 
+-- a list below n + 1 once v is stored at n
+after-set : (P : ℕ → ℕ → Type 0) (l : List ℕ) (n v : ℕ) → n < length l → P n v → ((i : ℕ) → i < n → P i (getD l i 0)) → (i : ℕ) → i < n + 1 → P i (getD (set l n v) i 0)
+after-set P l n v h new old =
+    last-or-below (λ i. P i (getD (set l n v) i 0)) n (rw (getD-set-same l n v 0 h) new) (λ i b. rw (getD-set-other l n i v 0 (λ e. omega arith)) (old i b))
+
 issued-kept : {N : Numbers} (M : Machine N) (x : Answer N × Machine N) → Effect M x → Issued M → Issued (x .1)
 issued-kept M _ (keeps l) is = λ i h. is i (omega arith)
-issued-kept M _ (records v es r s) is =
-    let n = M .state .length in
-    let ss = M .lent .serial in
-    last-or-below
-    (λ i. getD (set ss n (M .state .next)) i 0 < M .state .next + 1)
-    n
-    (rw (getD-set-same ss n (M .state .next) 0 (omega arith)) (omega arith))
-    (λ i h. rw (getD-set-other ss n i (M .state .next) 0 (λ e. omega arith)) (omega (arith, is i h)))
+issued-kept M _ (records v es r s) is = after-set (λ i k. k < M .state .next + 1) (M .lent .serial) _ _ (omega arith) (omega arith) (λ i h. omega (arith, is i h))
 
 -- not live, its serial given out
 record Past {N : Numbers} (h : Handle) (M : Machine N) : Type 0 where
@@ -37,14 +35,10 @@ past-kept h M _ (keeps l) p = record { dead = λ a. p .dead (record { below = om
 past-kept h M _ (records v es r s) p =
     let n = M .state .length in
     let ss = M .lent .serial in
-    let older : (i : ℕ) → i < n + 1 → getD (set ss n (M .state .next)) i 0 ≡ h .serial → (i < n) × (getD ss i 0 ≡ h .serial) =
-        last-or-below
-        (λ i. getD (set ss n (M .state .next)) i 0 ≡ h .serial → (i < n) × (getD ss i 0 ≡ h .serial))
-        n
-        (λ e. let f : M .state .next ≡ h .serial = sym (getD-set-same ss n (M .state .next) 0 (omega arith)) ∙ e in absurd (omega arith))
-        (λ i l e. (l, sym (getD-set-other ss n i (M .state .next) 0 (λ e. omega arith)) ∙ e)) in
     record {
-      dead = λ a. let o = older (h .index) (a .below) (a .same) in p .dead (record { below = o .0; serial = a .serial; same = o .1 });
+      dead = λ a.
+          let older = after-set (λ i k. k ≡ h .serial → (i < n) × (getD ss i 0 ≡ h .serial)) ss n (M .state .next) (omega arith) (λ e. absurd (omega arith)) (λ i b e. (b, e)) (h .index) (a .below) (a .same) in
+          p .dead (record { below = older .0; serial = a .serial; same = older .1 });
       serial = omega arith;
     }
 

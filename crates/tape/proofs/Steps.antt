@@ -3,17 +3,17 @@ use Prim.Native.Nat.{ℕ, suc, _+_, _≤_, _<_, zero-le}
 use native.Mathlib.Nat.{le-refl}
 use native.Mathlib.Omega.{arith}
 use native.Mathlib.Decide.{decLt}
-use mathlib.Core.Path.{_≡_, refl, sym, ap, subst}
+use mathlib.Core.Path.{_≡_, refl, subst}
 use mathlib.Core.Bool.{Bool, true, false, not, _&&_, _||_, cond, and-eq-true-iff, true≢false}
 use mathlib.Core.List.{List, [], _∷_, _++_, map, append-nil}
 use mathlib.Core.Option.{Option, none, some}
 use borrow.Author.Tests.{ltb-true, leb-true, eqb-true, eqb-false, lt-ltb, eq-eqb, ne-eqb, not-true, not-false}
-use lib.Dec.{leb, ltb, eqb}
+use lib.Dec.{ltb, eqb}
 use lib.ListN.{length, getD}
 use Rattle.tape.specs.Numbers.{Numbers}
-use Rattle.tape.specs.Machine.{Arrays, Machine, arrays, machine, capacity, slot, all, fits, arrays-fit, state-fits}
+use Rattle.tape.specs.Machine.{Machine, arrays, machine, capacity, slot, all, fits, arrays-fit, state-fits}
 use Rattle.tape.specs.Handles.{Operand, plain, node, live, worth, handles, lives}
-use Rattle.tape.specs.Operations.{Given, apply, one-sided, used}
+use Rattle.tape.specs.Operations.{Given, apply, one-sided}
 use Rattle.tape.specs.Answers.{Answer, answer, refused, recorded}
 use Rattle.tape.specs.Calls.{Move, start, stop, set-mark, reset-mark, rewind-to-mark, rewind-to-init, Call, move, operate, Edge, edge, edges, issued, written, asked, unknown, any-stale, recording, last-serial, carried, step}
 use Rattle.tape.specs.Kept.{after}
@@ -114,17 +114,17 @@ module _ {N : Numbers} (M : Machine N) where
       let l = lives-told _ (M .lent .serial) h (not-false (live M h) (or-false _ _ e .0)) in
       record { few = omega arith; below = rw (lt-ltb _ _ (l .below)) (r .below) }
 
-  no-edges : Edges {N = N} (M .state .length) 0 []
-  no-edges = record { few = omega arith; below = refl }
+  no-edges : (k : ℕ) → Edges {N = N} (M .state .length) k []
+  no-edges k = record { few = zero-le; below = refl }
 
   no-partial : (o : Operand N) → edge o none ≡ []
   no-partial (plain x) = refl
   no-partial (node h) = refl
 
   both-ok : (b : Bool) (left right : Operand N) (p q : Option (N .Number)) → (b ≡ true → q ≡ none) → any-stale M (handles (cond b (left ∷ []) (left ∷ right ∷ []))) ≡ false → Edges (M .state .length) 2 (edge left p ++ edge right q)
-  both-ok true left right p q alone e = rw (alone refl, no-partial right) (edge-ok left p [] [] 1 e (λ _. record { few = omega arith; below = refl }))
+  both-ok true left right p q alone e = rw (alone refl, no-partial right) (edge-ok left p [] [] 1 e (λ _. no-edges 1))
   both-ok false left right p q alone e =
-      edge-ok left p (right ∷ []) (edge right q) 1 e (λ e′. rw append-nil at (edge-ok right q [] [] 0 e′ (λ _. no-edges)))
+      edge-ok left p (right ∷ []) (edge right q) 1 e (λ e′. rw append-nil at (edge-ok right q [] [] 0 e′ (λ _. no-edges 0)))
 
 by-or : {P : Type 0} (a b : Bool) → (a ≡ true → P) → (b ≡ true → P) → a || b ≡ true → P
 by-or true b f g e = f refl
