@@ -1,0 +1,103 @@
+-- What one node more writes and what it leaves: by cases on what a step leaves.
+use Prim.Native.Nat.{ℕ, suc, _+_, _-_, _≤_, _<_}
+use native.Mathlib.Nat.{le-refl}
+use native.Mathlib.Omega.{arith}
+use mathlib.Core.Path.{_≡_, refl, ap, subst, _∙_}
+use mathlib.Core.Bool.{true, and-eq-true-iff}
+use mathlib.Core.List.{List, [], _∷_, map, append-assoc}
+use mathlib.Core.Option.{some, Option·some-injective}
+use borrow.Author.Tests.{leb-true, le-leb}
+use lib.Dec.{leb, ltb}
+use lib.ListN.{length, getD, take, drop, set, length-map}
+use lib.Seq.{getD-set-same, getD-set-other, take-set-le, drop-set-add, length-take-le, drop-at, take-at, sets, sets-eq}
+use Rattle.tape.specs.Numbers.{Numbers}
+use Rattle.tape.specs.Machine.{Arrays, Machine, slot, all}
+use Rattle.tape.specs.Handles.{Operand, node, live, worth}
+use Rattle.tape.specs.Operations.{Given, apply}
+use Rattle.tape.specs.Answers.{Answer}
+use Rattle.tape.specs.Calls.{Edge, move, operate, edges, issued, written, step}
+use Rattle.tape.specs.Kept.{Recording, SameBelow, fresh, sound}
+use Rattle.tape.specs.declared.node.Handle.{Handle}
+use Rattle.tape.proofs.Steps.{by-test, by-refusal, lives-so, Effect, keeps, records, effect, kept, last-or-below}
+
+-- ---- a run of stores
+
+module _ {A : Type 0} where
+  -- it leaves what stands before it
+  part-sets : (k j : ℕ) (l : List A) (i : ℕ) (vs : List A) → j + k ≤ i → take k (drop j (sets l i vs)) ≡ take k (drop j l)
+  part-sets k j l i [] h = refl
+  part-sets k j l i (v ∷ vs) h =
+      let e : j + (i - j) ≡ i = omega arith in
+      let one : take k (drop j (set l i v)) ≡ take k (drop j l) = subst (λ m. take k (drop j (set l m v)) ≡ take k (drop j l)) e (ap (take k) (drop-set-add j l (i - j) v) ∙ take-set-le k (drop j l) (i - j) v (omega arith)) in
+      part-sets k j (set l i v) (suc i) vs (omega arith) ∙ one
+
+  -- and it is read back
+  part-stored : (k : ℕ) (l : List A) (i : ℕ) (vs : List A) → length vs ≡ k → i + k ≤ length l → take k (drop i (sets l i vs)) ≡ vs
+  part-stored k l i vs e h = rw (sets-eq vs l i (omega arith), append-assoc, drop-at (take i l) _ i (length-take-le i l (omega arith)), take-at vs _ k e)
+
+-- ---- the node that is answered
+
+answered : {N : Numbers} {M : Machine N} {x : Answer N × Machine N} (h : Handle) → Effect M x → x .0 .handle ≡ some h → (live (x .1) h ≡ true) × (worth (x .1) (node h) ≡ x .0 .value)
+answered h (keeps l) e = let f : _≡_ {A = ℕ} 0 1 = cc in absurd (omega arith)
+answered {N} {M} h (records v es r s) e =
+    subst
+    (λ h. (live (written M v es) h ≡ true) × (worth (written M v es) (node h) ≡ v))
+    (Option·some-injective _ _ e)
+    (lives-so _ (written M v es .lent .serial) (issued (M .state)) (record { below = omega arith; serial = r .next; same = getD-set-same (M .lent .serial) _ _ 0 (omega arith) }), getD-set-same (M .lent .value) _ _ _ (r .room))
+
+-- ---- sound nodes
+
+sound-by : {N : Numbers} (A : Arrays N) (i k : ℕ) (cs : List ℕ) → getD (A .count) i 0 ≡ k → k ≤ 2 → take k (drop (slot i) (A .child)) ≡ cs → all (map (λ c. ltb c i) cs) ≡ true → sound A i ≡ true
+sound-by A i k cs count few child below = rw (count, child, le-leb k 2 few) below
+
+abbrev SoundNodes : {N : Numbers} → Machine N → Type 0
+SoundNodes M = (i : ℕ) → i < M .state .length → sound (M .lent) i ≡ true
+
+sound-kept : {N : Numbers} (M : Machine N) (x : Answer N × Machine N) → Effect M x → SoundNodes M → SoundNodes (x .1)
+sound-kept M _ (keeps l) is = λ i h. is i (omega arith)
+sound-kept M _ (records v es r s) is =
+    let n = M .state .length in
+    let A = M .lent in
+    let B = written M v es .lent in
+    let cs = map (λ e. e .child) es in
+    last-or-below
+    (λ i. sound B i ≡ true)
+    n
+    (sound-by B n (length es) cs (getD-set-same (A .count) n _ 0 (omega arith)) (s .few) (part-stored (length es) (A .child) (slot n) cs (length-map es _) (omega arith)) (s .below))
+    (λ i h.
+    let k = getD (A .count) i 0 in
+    let both = and-eq-true-iff (leb k 2) (all (map (λ c. ltb c i) (take k (drop (slot i) (A .child))))) .0 (is i h) in
+    let few : k ≤ 2 = leb-true _ _ (both .0) in
+    sound-by B i k _ (getD-set-other (A .count) n i _ 0 (λ e. omega arith)) few (part-sets k (slot i) (A .child) (slot n) cs (omega arith)) (both .1))
+
+-- ---- what is below
+
+same : {N : Numbers} (n : ℕ) (A : Arrays N) → SameBelow n A A
+same n A = record { value = refl; adjoint = refl; serial = refl; count = refl; child = refl; partial = refl }
+
+below-written : {N : Numbers} (M : Machine N) (v : N .Number) (es : List (Edge N)) → SameBelow (M .state .length) (M .lent) (written M v es .lent)
+below-written M v es =
+    let n = M .state .length in
+    let A = M .lent in
+    record {
+      value = take-set-le n (A .value) n _ (le-refl n);
+      adjoint = take-set-le n (A .adjoint) n _ (le-refl n);
+      serial = take-set-le n (A .serial) n _ (le-refl n);
+      count = take-set-le n (A .count) n _ (le-refl n);
+      child = part-sets (slot n) 0 (A .child) (slot n) (map (λ e. e .child) es) (omega arith);
+      partial = part-sets (slot n) 0 (A .partial) (slot n) (map (λ e. e .weight) es) (omega arith);
+    }
+
+below : {N : Numbers} (op : ℕ) (left right : Operand N) (g : Given N) (M : Machine N) → SameBelow (M .state .length) (M .lent) (step (operate op left right g) M .1 .lent)
+below {N} op left right g M =
+    let es = edges left right (apply op (worth M left) (worth M right) g) in
+    let Same : Answer N × Machine N → Type 0 = λ x. SameBelow (M .state .length) (M .lent) (x .1 .lent) in
+    by-refusal Same (operate op left right g) M (λ r. same _ _) (λ p. by-test Same (M .state .active) (λ _. below-written M _ es) (λ _. same _ _))
+
+pub recording : Recording
+recording = record {
+  answered = λ c M h. answered h (effect c M);
+  sound-nodes = λ A cs. kept SoundNodes sound-kept cs (fresh A) (λ i h. absurd (omega arith));
+  below = below;
+  moves = λ m M. by-refusal (λ x. x .1 .lent ≡ M .lent) (move m) M (λ r. refl) (λ p. refl);
+}

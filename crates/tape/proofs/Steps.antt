@@ -1,0 +1,175 @@
+-- What a step does. Everything is read off `step`'s table of refusals and off `carried`.
+use Prim.Native.Nat.{ℕ, suc, _+_, _≤_, _<_, zero-le}
+use native.Mathlib.Nat.{le-refl}
+use native.Mathlib.Omega.{arith}
+use native.Mathlib.Decide.{decLt}
+use mathlib.Core.Path.{_≡_, refl, subst}
+use mathlib.Core.Bool.{Bool, true, false, not, _&&_, _||_, cond, and-eq-true-iff, true≢false}
+use mathlib.Core.List.{List, [], _∷_, _++_, map, append-nil}
+use mathlib.Core.Option.{Option, none, some}
+use borrow.Author.Tests.{ltb-true, leb-true, eqb-true, eqb-false, lt-ltb, eq-eqb, ne-eqb, not-true, not-false}
+use lib.Dec.{ltb, eqb}
+use lib.ListN.{length, getD}
+use Rattle.tape.specs.Numbers.{Numbers}
+use Rattle.tape.specs.Machine.{Machine, arrays, machine, capacity, slot, all, fits, arrays-fit, state-fits}
+use Rattle.tape.specs.Handles.{Operand, plain, node, live, worth, handles, lives}
+use Rattle.tape.specs.Operations.{Given, apply, one-sided}
+use Rattle.tape.specs.Answers.{Answer, answer, refused, recorded}
+use Rattle.tape.specs.Calls.{Move, start, stop, set-mark, reset-mark, rewind-to-mark, rewind-to-init, Call, move, operate, Edge, edge, edges, issued, written, asked, unknown, any-stale, recording, last-serial, carried, step}
+use Rattle.tape.specs.Kept.{after}
+use Rattle.tape.specs.declared.errors.Refusal.{Refusal}
+use Rattle.tape.specs.declared.errors.Refusal.the-variants.{Misshapen, UnknownOperation, NotLive, Full, SerialsSpent}
+use Rattle.tape.specs.declared.node.Handle.{Handle}
+use Rattle.tape.specs.declared.state.Tape.{Tape}
+
+-- ---- tests
+
+pub by-test : {A : Type 0} (P : A → Type 0) (b : Bool) {x y : A} → (b ≡ true → P x) → (b ≡ false → P y) → P (cond b x y)
+by-test P true f g = f refl
+by-test P false f g = g refl
+
+abbrev Every : List Bool → Type 0
+Every [] = Unit {0}
+Every (b ∷ bs) = (b ≡ true) × Every bs
+
+every : (bs : List Bool) → all bs ≡ true → Every bs
+every [] e = tt
+every (b ∷ bs) e = let both = and-eq-true-iff b (all bs) .0 e in (both .0, every bs (both .1))
+
+-- ---- no test hit
+
+pub record Passed {N : Numbers} (c : Call N) (M : Machine N) : Type 0 where
+  pub shape : fits (asked c .arrays) M ≡ true
+  pub known : unknown (asked c .operation) ≡ false
+  pub all-live : any-stale M (asked c .handles) ≡ false
+  pub room : recording (asked c .operation) M && eqb (M .state .length) (capacity (M .lent)) ≡ false
+  pub serial : recording (asked c .operation) M && eqb (M .state .next) last-serial ≡ false
+
+-- a step is a refusal, or what the call does with no test hit
+pub by-refusal : {N : Numbers} (P : Answer N × Machine N → Type 0) (c : Call N) (M : Machine N) → ((r : Refusal) → P (refused r, M)) → (Passed c M → P (carried c M)) → P (step c M)
+unfolding step
+by-refusal P c M hit passed =
+    by-test P _ (λ _. hit Misshapen) (λ shape.
+    by-test P _ (λ _. hit UnknownOperation) (λ known.
+    by-test P _ (λ _. hit NotLive) (λ all-live.
+    by-test P _ (λ _. hit Full) (λ room.
+    by-test P _ (λ _. hit SerialsSpent) (λ serial.
+    passed (record { shape = not-false _ shape; known = known; all-live = all-live; room = room; serial = serial }))))))
+
+-- what refusal 1 leaves, with the arrays lent and without
+record StateFits (n : ℕ) (t : Tape) : Type 0 where
+  length : t .length ≤ n
+  mark : t .mark ≤ t .length
+  next : t .next ≡ 0 → ⊥
+
+state-ok : (n : ℕ) (t : Tape) → Every (state-fits n t) → StateFits n t
+state-ok n t (l, (m, (s, _))) = record { length = leb-true _ _ l; mark = leb-true _ _ m; next = eqb-false _ _ (not-true _ s) }
+
+-- a machine that has room for a node
+pub record Ready {N : Numbers} (M : Machine N) : Type 0 where
+  pub room : M .state .length < capacity (M .lent)
+  pub serial : length (M .lent .serial) ≡ capacity (M .lent)
+  pub count : length (M .lent .count) ≡ capacity (M .lent)
+  pub child : length (M .lent .child) ≡ slot (capacity (M .lent))
+  pub next : M .state .next ≡ 0 → ⊥
+
+ready : {N : Numbers} (M : Machine N) → fits true M ≡ true → eqb (M .state .length) (capacity (M .lent)) ≡ false → Ready M
+ready M shape room =
+    let (_, (_, (s, (c, (h, (_, state)))))) = every (arrays-fit (M .lent) ++ state-fits (capacity (M .lent)) (M .state)) shape in
+    let ok : StateFits (capacity (M .lent)) (M .state) = state-ok _ _ state in
+    record { room = omega (arith, eqb-false (M .state .length) (capacity (M .lent)) room); serial = eqb-true _ _ s; count = eqb-true _ _ c; child = eqb-true _ _ h; next = ok .next }
+
+-- ---- live handles
+
+pub record Lives (n : ℕ) (ss : List ℕ) (h : Handle) : Type 0 where
+  pub below : h .index < n
+  pub serial : h .serial ≡ 0 → ⊥
+  pub same : getD ss (h .index) 0 ≡ h .serial
+
+pub lives-told : (n : ℕ) (ss : List ℕ) (h : Handle) → lives n ss h ≡ true → Lives n ss h
+lives-told n ss h e =
+    let (i, (s, (q, _))) = every (ltb (h .index) n ∷ not (eqb (h .serial) 0) ∷ eqb (getD ss (h .index) 0) (h .serial) ∷ []) e in
+    record { below = ltb-true _ _ i; serial = eqb-false _ _ (not-true _ s); same = eqb-true _ _ q }
+
+pub lives-so : (n : ℕ) (ss : List ℕ) (h : Handle) → Lives n ss h → lives n ss h ≡ true
+lives-so n ss h l = simp (lt-ltb _ _ (l .below), ne-eqb _ _ (l .serial), eq-eqb _ _ (l .same))
+
+-- ---- edges
+
+-- at most k edges, each to a node below n
+pub record Edges {N : Numbers} (n k : ℕ) (es : List (Edge N)) : Type 0 where
+  pub few : length es ≤ k
+  pub below : all (map (λ c. ltb c n) (map (λ e. e .child) es)) ≡ true
+
+or-false : (a b : Bool) → a || b ≡ false → (a ≡ false) × (b ≡ false)
+or-false true b e = (e, absurd (true≢false e))
+or-false false b e = (refl, e)
+
+module _ {N : Numbers} (M : Machine N) where
+  edge-ok : (o : Operand N) (p : Option (N .Number)) (os : List (Operand N)) (es : List (Edge N)) (k : ℕ) → any-stale M (handles (o ∷ os)) ≡ false → (any-stale M (handles os) ≡ false → Edges (M .state .length) k es) → Edges (M .state .length) (suc k) (edge o p ++ es)
+  edge-ok (plain x) p os es k e rest = let r = rest e in record { few = omega arith; below = r .below }
+  edge-ok (node h) none os es k e rest = let r = rest (or-false (not (live M h)) _ e .1) in record { few = omega arith; below = r .below }
+  edge-ok (node h) (some p) os es k e rest =
+      let r = rest (or-false (not (live M h)) _ e .1) in
+      let l = lives-told _ (M .lent .serial) h (not-false (live M h) (or-false _ _ e .0)) in
+      record { few = omega arith; below = rw (lt-ltb _ _ (l .below)) (r .below) }
+
+  no-edges : (k : ℕ) → Edges {N = N} (M .state .length) k []
+  no-edges k = record { few = zero-le; below = refl }
+
+  no-partial : (o : Operand N) → edge o none ≡ []
+  no-partial (plain x) = refl
+  no-partial (node h) = refl
+
+  both-ok : (b : Bool) (left right : Operand N) (p q : Option (N .Number)) → (b ≡ true → q ≡ none) → any-stale M (handles (cond b (left ∷ []) (left ∷ right ∷ []))) ≡ false → Edges (M .state .length) 2 (edge left p ++ edge right q)
+  both-ok true left right p q alone e = rw (alone refl, no-partial right) (edge-ok left p [] [] 1 e (λ _. no-edges 1))
+  both-ok false left right p q alone e =
+      edge-ok left p (right ∷ []) (edge right q) 1 e (λ e′. rw append-nil at (edge-ok right q [] [] 0 e′ (λ _. no-edges 0)))
+
+by-or : {P : Type 0} (a b : Bool) → (a ≡ true → P) → (b ≡ true → P) → a || b ≡ true → P
+by-or true b f g e = f refl
+by-or false b f g e = g e
+
+-- the operations that use the left operand alone have no right partial
+alone : {N : Numbers} (op : ℕ) (l r : N .Number) (g : Given N) → one-sided op ≡ true → apply op l r g .right ≡ none
+alone op l r g = by-or _ _ (by-or _ _ (λ t. rw (eqb-true op 0 t)) (λ t. rw (eqb-true op 7 t))) (λ t. rw (eqb-true op 8 t))
+
+-- ---- what a step leaves
+
+-- Nothing but adjoints and the state without its serial, at no greater length and with no handle answered; or one node more.
+-- A call that writes adjoints or nothing is the first of these, so all that is shown from this holds for it as well
+pub data Effect {N : Numbers} (M : Machine N) : Answer N × Machine N → Type 0 where
+  keeps : {number : ℕ} {value : N .Number} {count : ℕ} {length mark : ℕ} {active : Bool} {adjoint : List (N .Number)} → length ≤ M .state .length
+      → Effect
+      M
+      (answer number value none count, machine (record { length = length; mark = mark; active = active; next = M .state .next }) (arrays (M .lent .value) adjoint (M .lent .serial) (M .lent .count) (M .lent .child) (M .lent .partial)))
+  records : (v : N .Number) (es : List (Edge N)) → Ready M → Edges (M .state .length) 2 es → Effect M (recorded v (issued (M .state)), written M v es)
+
+move-effect : {N : Numbers} (m : Move) (M : Machine N) → M .state .mark ≤ M .state .length → Effect M (carried (move m) M)
+move-effect start M h = keeps zero-le
+move-effect stop M h = keeps (le-refl _)
+move-effect set-mark M h = keeps (le-refl _)
+move-effect reset-mark M h = keeps (le-refl _)
+move-effect rewind-to-mark M h = keeps h
+move-effect rewind-to-init M h = keeps zero-le
+
+carried-effect : {N : Numbers} (c : Call N) (M : Machine N) → Passed c M → Effect M (carried c M)
+carried-effect (move m) M p = move-effect m M (state-ok 65535 (M .state) (every (state-fits 65535 (M .state)) (p .shape)) .mark)
+carried-effect (operate op left right g) M p =
+    let s = apply op (worth M left) (worth M right) g in
+    by-test (Effect M) (M .state .active) (λ active. records (s .value) (edges left right s) (ready M (p .shape) (rw active at (p .room))) (both-ok M (one-sided op) left right (s .left) (s .right) (alone op (worth M left) (worth M right) g) (p .all-live))) (λ _. keeps (le-refl _))
+
+pub effect : {N : Numbers} (c : Call N) (M : Machine N) → Effect M (step c M)
+effect c M = by-refusal (Effect M) c M (λ r. keeps (le-refl _)) (carried-effect c M)
+
+-- what every step keeps, every sequence of calls keeps
+pub kept : {N : Numbers} (P : Machine N → Type 0) → ((M : Machine N) (x : Answer N × Machine N) → Effect M x → P M → P (x .1)) → (cs : List (Call N)) (M : Machine N) → P M → P (after cs M)
+kept P each [] M p = p
+kept P each (c ∷ cs) M p = kept P each cs (step c M .1) (each M (step c M) (effect c M) p)
+
+-- below a length that grew by one: at the new node, or below it
+pub last-or-below : (P : ℕ → Type 0) (n : ℕ) → P n → ((i : ℕ) → i < n → P i) → (i : ℕ) → i < n + 1 → P i
+last-or-below P n last below i h = either (decLt i n) where
+  either : Dec (i < n) → P i
+  either (yes l) = below i l
+  either (no g) = let e : n ≡ i = omega arith in subst P e last
