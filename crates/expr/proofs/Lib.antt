@@ -1,2 +1,4 @@
 pub mod Table
 pub mod Lookups
+pub mod Rooms
+pub mod Decided

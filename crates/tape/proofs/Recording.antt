@@ -18,7 +18,8 @@ use Rattle.tape.specs.Answers.{Answer}
 use Rattle.tape.specs.Calls.{Edge, move, operate, edges, issued, written, step}
 use Rattle.tape.specs.Kept.{Recording, SameBelow, fresh, sound}
 use Rattle.tape.specs.declared.node.Handle.{Handle}
-use Rattle.tape.proofs.Steps.{by-test, by-refusal, lives-so, Effect, keeps, records, effect, kept, last-or-below}
+use Rattle.tape.proofs.Tests.{by-test}
+use Rattle.tape.proofs.Steps.{by-refusal, lives-so, Effect, keeps, records, effect, kept, last-or-below}
 
 -- ---- a run of stores
 
@@ -43,7 +44,7 @@ answered {N} {M} h (records v es r s) e =
     subst
     (λ h. (live (written M v es) h ≡ true) × (worth (written M v es) (node h) ≡ v))
     (Option·some-injective _ _ e)
-    (lives-so _ (written M v es .lent .serial) (issued (M .state)) (record { below = omega arith; serial = r .next; same = getD-set-same (M .lent .serial) _ _ 0 (omega arith) }), getD-set-same (M .lent .value) _ _ _ (r .room))
+    (lives-so _ (written M v es .lent .serial) (issued (M .state)) (record { below = omega arith; serial = r .fit .state .next; same = getD-set-same (M .lent .serial) _ _ 0 (omega arith) }), getD-set-same (M .lent .value) _ _ _ (r .room))
 
 -- ---- sound nodes
 

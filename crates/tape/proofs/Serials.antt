@@ -20,7 +20,7 @@ module _ {N : Numbers} {M : Machine N} where
 
   never-nought : {x : Answer N × Machine N} (h : Handle) → Effect M x → x .0 .handle ≡ some h → h .serial ≡ 0 → ⊥
   never-nought h (keeps l) e z = let f : _≡_ {A = ℕ} 0 1 = cc in omega arith
-  never-nought h (records v es r s) e z = r .next (cc)
+  never-nought h (records v es r s) e z = r .fit .state .next (cc)
 
   ascends : {x : Answer N × Machine N} (ss : List ℕ) → Effect M x → Ascending (x .1 .state .next) ss → Ascending (M .state .next) (serial-of (x .0 .handle) ss)
   ascends ss (keeps l) a = a

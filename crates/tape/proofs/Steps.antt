@@ -17,24 +17,11 @@ use Rattle.tape.specs.Operations.{Given, apply, one-sided}
 use Rattle.tape.specs.Answers.{Answer, answer, refused, recorded}
 use Rattle.tape.specs.Calls.{Move, start, stop, set-mark, reset-mark, rewind-to-mark, rewind-to-init, Call, move, operate, Edge, edge, edges, issued, written, asked, unknown, any-stale, recording, last-serial, carried, step}
 use Rattle.tape.specs.Kept.{after}
+use Rattle.tape.proofs.Tests.{by-test, every, Fit, fit, state-fit}
 use Rattle.tape.specs.declared.errors.Refusal.{Refusal}
 use Rattle.tape.specs.declared.errors.Refusal.the-variants.{Misshapen, UnknownOperation, NotLive, Full, SerialsSpent}
 use Rattle.tape.specs.declared.node.Handle.{Handle}
 use Rattle.tape.specs.declared.state.Tape.{Tape}
-
--- ---- tests
-
-pub by-test : {A : Type 0} (P : A → Type 0) (b : Bool) {x y : A} → (b ≡ true → P x) → (b ≡ false → P y) → P (cond b x y)
-by-test P true f g = f refl
-by-test P false f g = g refl
-
-abbrev Every : List Bool → Type 0
-Every [] = Unit {0}
-Every (b ∷ bs) = (b ≡ true) × Every bs
-
-every : (bs : List Bool) → all bs ≡ true → Every bs
-every [] e = tt
-every (b ∷ bs) e = let both = and-eq-true-iff b (all bs) .0 e in (both .0, every bs (both .1))
 
 -- ---- no test hit
 
@@ -56,28 +43,13 @@ by-refusal P c M hit passed =
     by-test P _ (λ _. hit SerialsSpent) (λ serial.
     passed (record { shape = not-false _ shape; known = known; all-live = all-live; room = room; serial = serial }))))))
 
--- what refusal 1 leaves, with the arrays lent and without
-record StateFits (n : ℕ) (t : Tape) : Type 0 where
-  length : t .length ≤ n
-  mark : t .mark ≤ t .length
-  next : t .next ≡ 0 → ⊥
-
-state-ok : (n : ℕ) (t : Tape) → Every (state-fits n t) → StateFits n t
-state-ok n t (l, (m, (s, _))) = record { length = leb-true _ _ l; mark = leb-true _ _ m; next = eqb-false _ _ (not-true _ s) }
-
 -- a machine that has room for a node
 pub record Ready {N : Numbers} (M : Machine N) : Type 0 where
+  pub fit : Fit M
   pub room : M .state .length < capacity (M .lent)
-  pub serial : length (M .lent .serial) ≡ capacity (M .lent)
-  pub count : length (M .lent .count) ≡ capacity (M .lent)
-  pub child : length (M .lent .child) ≡ slot (capacity (M .lent))
-  pub next : M .state .next ≡ 0 → ⊥
 
 ready : {N : Numbers} (M : Machine N) → fits true M ≡ true → eqb (M .state .length) (capacity (M .lent)) ≡ false → Ready M
-ready M shape room =
-    let (_, (_, (s, (c, (h, (_, state)))))) = every (arrays-fit (M .lent) ++ state-fits (capacity (M .lent)) (M .state)) shape in
-    let ok : StateFits (capacity (M .lent)) (M .state) = state-ok _ _ state in
-    record { room = omega (arith, eqb-false (M .state .length) (capacity (M .lent)) room); serial = eqb-true _ _ s; count = eqb-true _ _ c; child = eqb-true _ _ h; next = ok .next }
+ready M shape room = let f : Fit M = fit M shape in record { fit = f; room = omega (arith, eqb-false (M .state .length) (capacity (M .lent)) room) }
 
 -- ---- live handles
 
@@ -154,7 +126,7 @@ move-effect rewind-to-mark M h = keeps h
 move-effect rewind-to-init M h = keeps zero-le
 
 carried-effect : {N : Numbers} (c : Call N) (M : Machine N) → Passed c M → Effect M (carried c M)
-carried-effect (move m) M p = move-effect m M (state-ok 65535 (M .state) (every (state-fits 65535 (M .state)) (p .shape)) .mark)
+carried-effect (move m) M p = move-effect m M (state-fit 65535 (M .state) (p .shape) .mark)
 carried-effect (operate op left right g) M p =
     let s = apply op (worth M left) (worth M right) g in
     by-test (Effect M) (M .state .active) (λ active. records (s .value) (edges left right s) (ready M (p .shape) (rw active at (p .room))) (both-ok M (one-sided op) left right (s .left) (s .right) (alone op (worth M left) (worth M right) g) (p .all-live))) (λ _. keeps (le-refl _))

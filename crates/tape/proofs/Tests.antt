@@ -1,0 +1,48 @@
+-- What tests tell: a branch, a list of tests that all hold, and refusal 1's not being given.
+use Prim.Native.Nat.{ℕ, _≤_}
+use mathlib.Core.Path.{_≡_, refl}
+use mathlib.Core.Bool.{Bool, true, false, cond, and-eq-true-iff}
+use mathlib.Core.List.{List, [], _∷_, _++_}
+use borrow.Author.Tests.{leb-true, eqb-true, eqb-false, not-true}
+use lib.ListN.{length}
+use Rattle.tape.specs.Numbers.{Numbers}
+use Rattle.tape.specs.Machine.{Machine, capacity, slot, all, fits, arrays-fit, state-fits}
+use Rattle.tape.specs.declared.state.Tape.{Tape}
+
+pub by-test : {A : Type 0} (P : A → Type 0) (b : Bool) {x y : A} → (b ≡ true → P x) → (b ≡ false → P y) → P (cond b x y)
+by-test P true f g = f refl
+by-test P false f g = g refl
+
+abbrev pub Every : List Bool → Type 0
+Every [] = Unit {0}
+Every (b ∷ bs) = (b ≡ true) × Every bs
+
+pub every : (bs : List Bool) → all bs ≡ true → Every bs
+every [] e = tt
+every (b ∷ bs) e = let both = and-eq-true-iff b (all bs) .0 e in (both .0, every bs (both .1))
+
+
+pub record StateFit (n : ℕ) (t : Tape) : Type 0 where
+  pub length : t .length ≤ n
+  pub mark : t .mark ≤ t .length
+  pub next : t .next ≡ 0 → ⊥
+
+of-tests : (n : ℕ) (t : Tape) → Every (state-fits n t) → StateFit n t
+of-tests n t (l, (m, (s, _))) = record { length = leb-true _ _ l; mark = leb-true _ _ m; next = eqb-false _ _ (not-true _ s) }
+
+pub state-fit : (n : ℕ) (t : Tape) → all (state-fits n t) ≡ true → StateFit n t
+state-fit n t e = of-tests n t (every (state-fits n t) e)
+
+pub record Fit {N : Numbers} (M : Machine N) : Type 0 where
+  pub small : capacity (M .lent) ≤ 65535
+  pub adjoint : length (M .lent .adjoint) ≡ capacity (M .lent)
+  pub serial : length (M .lent .serial) ≡ capacity (M .lent)
+  pub count : length (M .lent .count) ≡ capacity (M .lent)
+  pub child : length (M .lent .child) ≡ slot (capacity (M .lent))
+  pub partial : length (M .lent .partial) ≡ slot (capacity (M .lent))
+  pub state : StateFit (capacity (M .lent)) (M .state)
+
+pub fit : {N : Numbers} (M : Machine N) → fits true M ≡ true → Fit M
+fit M e =
+    let (n, (a, (s, (c, (h, (p, state)))))) = every (arrays-fit (M .lent) ++ state-fits (capacity (M .lent)) (M .state)) e in
+    record { small = leb-true _ _ n; adjoint = eqb-true _ _ a; serial = eqb-true _ _ s; count = eqb-true _ _ c; child = eqb-true _ _ h; partial = eqb-true _ _ p; state = of-tests _ _ state }
