@@ -1,4 +1,5 @@
--- What recording promises: one step of the machine of crate tape. Read `Table` and `Outcome`; `Inner` serves the private functions and has not to be believed.
+-- What recording promises: one step of the machine of crate tape. Read `Table`, `Outcome` and `Operators`; `Inner` serves the private functions and has not to be believed.
 pub mod Table
 pub mod Outcome
+pub mod Operators
 pub mod Inner

@@ -2,6 +2,7 @@
 //
 // `record` takes any operation by its number; `operators` has a call for each one.
 pub mod operations;
+pub mod operators;
 pub mod recording;
 
 pub use operations::Row;
