@@ -149,8 +149,10 @@ module _ (M : Machine floats) where
   alone-so op l r g x = by-or _ _ (by-or _ _ (λ t. at-zero t) (λ t. at-seven t)) (λ t. at-eight t) where
     at-zero : eqb op 0 ≡ true → made op l (Number x) g ≡ made op l r g
     at-zero t = rw (eqb-true op 0 t, no-partial r)
+
     at-seven : eqb op 7 ≡ true → made op l (Number x) g ≡ made op l r g
     at-seven t = rw (eqb-true op 7 t, no-partial r)
+
     at-eight : eqb op 8 ≡ true → made op l (Number x) g ≡ made op l r g
     at-eight t = rw (eqb-true op 8 t, no-partial r)
 
@@ -164,6 +166,7 @@ module _ (M : Machine floats) where
     by-sides : (o : Bool) → one-sided op ≡ o → known op ≡ true → Decides op l r g
     by-sides true o k = rw (k, o, found-so l, any-one l) (left-so op g (stale l) (source l) (source (Number (ofBits binary64 0))) _ (live-so op l (Number (ofBits binary64 0)) g k ∙ alone-so op l r g (ofBits binary64 0) o))
     by-sides false o k = rw (k, o, found-so l, found-so r, any-two l r) (both-so op g (stale l) (stale r) (source l) (source r) _ (live-so op l r g k))
+
     by-known : (k : Bool) → known op ≡ k → Decides op l r g
     by-known true k = by-sides (one-sided op) refl k
     by-known false k = rw k

@@ -4,7 +4,7 @@ use mathlib.Core.Bool.{Bool, true, false, cond}
 use mathlib.Core.Option.{none, some}
 use lib.Ieee.{nan}
 use Rattle.tape.specs.Numbers.{floats}
-use Rattle.tape.specs.Operations.{Given, row, known, one-sided} 
+use Rattle.tape.specs.Operations.{Given, row, known, one-sided}
 use Rattle.tape.specs.Operations as operations
 use Rattle.expr.specs.declared.operations.Row.{Row}
 use Rattle.expr.specs.declared.operations.Row.the-variants.{Unknown, Leaf, One, Two}

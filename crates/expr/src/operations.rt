@@ -29,8 +29,16 @@ pub fn apply(op: u8, l: f64, r: f64, supplied: Supplied) -> Row
         2 => Row::Two(l - r, 1.0, 0.0 - 1.0),
         3 => Row::Two(l * r, r, l),
         4 => Row::Two(l / r, 1.0 / r, 0.0 - l / (r * r)),
-        5 => Row::Two(either(l >= r, l, r), either(l > r, 1.0, 0.0), either(r > l, 1.0, 0.0)),
-        6 => Row::Two(either(l <= r, l, r), either(l < r, 1.0, 0.0), either(r < l, 1.0, 0.0)),
+        5 => Row::Two(
+            either(l >= r, l, r),
+            either(l > r, 1.0, 0.0),
+            either(r > l, 1.0, 0.0),
+        ),
+        6 => Row::Two(
+            either(l <= r, l, r),
+            either(l < r, 1.0, 0.0),
+            either(r < l, 1.0, 0.0),
+        ),
         7 => Row::One(0.0 - l, 0.0 - 1.0),
         8 => Row::One(supplied.value, supplied.left),
         9 => Row::Two(supplied.value, supplied.left, supplied.right),

@@ -29,19 +29,39 @@ pub enum Recorded {
 }
 
 // Records operation op on its operands. Refuses what does not fit (1), an unknown operation (2), an operand that is used and not live (3) and, while active, a full tape (5, 6).
-pub fn record(tape: Tape, value: &mut [f64], adjoint: &mut [f64], serial: &mut [u64], count: &mut [u8], child: &mut [u16], partial: &mut [f64], op: u8, left: Operand, right: Operand, supplied: Supplied) -> Recorded
-    ensures {
-        λ x. ⌜
-            outcome x (arrays {N = floats} (now (value .exit)) (now (adjoint .exit)) (now (serial .exit)) (now (count .exit)) (now (child .exit)) (now (partial .exit)))
-            ≡ step (operate op (operand left) (operand right) (given supplied)) (machine tape (arrays (now (value .entry)) (now (adjoint .entry)) (now (serial .entry)) (now (count .entry)) (now (child .entry)) (now (partial .entry)))) ⌝
-    }
+pub fn record(
+    tape: Tape,
+    value: &mut [f64],
+    adjoint: &mut [f64],
+    serial: &mut [u64],
+    count: &mut [u8],
+    child: &mut [u16],
+    partial: &mut [f64],
+    op: u8,
+    left: Operand,
+    right: Operand,
+    supplied: Supplied,
+) -> Recorded
+    ensures { λ x. ⌜
+        outcome x (arrays {N = floats} (now (value .exit)) (now (adjoint .exit)) (now (serial .exit)) (now (count .exit)) (now (child .exit)) (now (partial .exit)))
+        ≡ step (operate op (operand left) (operand right) (given supplied)) (machine tape (arrays (now (value .entry)) (now (adjoint .entry)) (now (serial .entry)) (now (count .entry)) (now (child .entry)) (now (partial .entry)))) ⌝ }
 {
     if !tape.admits(&*value, &*adjoint, &*serial, &*count, &*child, &*partial) {
         return Recorded::Refused(Refusal::Misshapen, tape);
     }
     match decide(tape.length, &*value, &*serial, op, left, right, supplied) {
         Decision::Refused(refusal) => Recorded::Refused(refusal, tape),
-        Decision::Made(v, edges) => settle(tape, value, adjoint, serial, count, child, partial, v, edges),
+        Decision::Made(v, edges) => settle(
+            tape,
+            value,
+            adjoint,
+            serial,
+            count,
+            child,
+            partial,
+            v,
+            edges,
+        ),
     }
 }
 
@@ -70,7 +90,15 @@ pub(crate) enum Decision {
     Made(f64, Edges),
 }
 
-fn decide(length: usize, value: &[f64], serial: &[u64], op: u8, left: Operand, right: Operand, supplied: Supplied) -> Decision
+fn decide(
+    length: usize,
+    value: &[f64],
+    serial: &[u64],
+    op: u8,
+    left: Operand,
+    right: Operand,
+    supplied: Supplied,
+) -> Decision
     requires { ⌜ Reads length (now value) ⌝ }
     ensures { λ x. ⌜ x ≡ decided length (now (value .entry)) (now (serial .entry)) op left right supplied ⌝ }
 {
@@ -139,7 +167,11 @@ fn from_right(op: u8, l: Source, right: Found, supplied: Supplied) -> Decision
 {
     match right {
         Found::NotLive => Decision::Refused(Refusal::NotLive),
-        Found::Source(r) => made(crate::operations::apply(op, l.value, r.value, supplied), l, r),
+        Found::Source(r) => made(
+            crate::operations::apply(op, l.value, r.value, supplied),
+            l,
+            r,
+        ),
     }
 }
 
@@ -176,31 +208,57 @@ fn link_both(l: Source, p: f64, r: Source, q: f64) -> Edges
 }
 
 // Asks the tape for room, and writes the node where there is some.
-fn settle(tape: Tape, value: &mut [f64], adjoint: &mut [f64], serial: &mut [u64], count: &mut [u8], child: &mut [u16], partial: &mut [f64], v: f64, edges: Edges) -> Recorded
+fn settle(
+    tape: Tape,
+    value: &mut [f64],
+    adjoint: &mut [f64],
+    serial: &mut [u64],
+    count: &mut [u8],
+    child: &mut [u16],
+    partial: &mut [f64],
+    v: f64,
+    edges: Edges,
+) -> Recorded
     requires { ⌜ fits true (machine tape (arrays {N = floats} (now value) (now adjoint) (now serial) (now count) (now child) (now partial))) ≡ true ⌝ }
-    ensures {
-        λ x. ⌜
-            outcome x (arrays {N = floats} (now (value .exit)) (now (adjoint .exit)) (now (serial .exit)) (now (count .exit)) (now (child .exit)) (now (partial .exit)))
-            ≡ settled (machine tape (arrays (now (value .entry)) (now (adjoint .entry)) (now (serial .entry)) (now (count .entry)) (now (child .entry)) (now (partial .entry)))) v (edges-told edges) ⌝
-    }
+    ensures { λ x. ⌜
+        outcome x (arrays {N = floats} (now (value .exit)) (now (adjoint .exit)) (now (serial .exit)) (now (count .exit)) (now (child .exit)) (now (partial .exit)))
+        ≡ settled (machine tape (arrays (now (value .entry)) (now (adjoint .entry)) (now (serial .entry)) (now (count .entry)) (now (child .entry)) (now (partial .entry)))) v (edges-told edges) ⌝ }
 {
     match tape.alloc(value.len()) {
         Alloc::Inactive => Recorded::Detached(v, tape),
         Alloc::Full => Recorded::Refused(Refusal::Full, tape),
         Alloc::SerialsSpent => Recorded::Refused(Refusal::SerialsSpent, tape),
         Alloc::Node(handle, after) => {
-            write(handle, value, adjoint, serial, count, child, partial, v, edges);
+            write(
+                handle,
+                value,
+                adjoint,
+                serial,
+                count,
+                child,
+                partial,
+                v,
+                edges,
+            );
             Recorded::Node(v, handle, after)
         }
     }
 }
 
-fn write(handle: Handle, value: &mut [f64], adjoint: &mut [f64], serial: &mut [u64], count: &mut [u8], child: &mut [u16], partial: &mut [f64], v: f64, edges: Edges)
+fn write(
+    handle: Handle,
+    value: &mut [f64],
+    adjoint: &mut [f64],
+    serial: &mut [u64],
+    count: &mut [u8],
+    child: &mut [u16],
+    partial: &mut [f64],
+    v: f64,
+    edges: Edges,
+)
     requires { ⌜ Room (handle .index) (arrays {N = floats} (now value) (now adjoint) (now serial) (now count) (now child) (now partial)) ⌝ }
-    ensures {
-        λ _. ⌜ arrays {N = floats} (now (value .exit)) (now (adjoint .exit)) (now (serial .exit)) (now (count .exit)) (now (child .exit)) (now (partial .exit))
-            ≡ with-node handle (arrays (now (value .entry)) (now (adjoint .entry)) (now (serial .entry)) (now (count .entry)) (now (child .entry)) (now (partial .entry))) v (edges-told edges) ⌝
-    }
+    ensures { λ _. ⌜ arrays {N = floats} (now (value .exit)) (now (adjoint .exit)) (now (serial .exit)) (now (count .exit)) (now (child .exit)) (now (partial .exit))
+        ≡ with-node handle (arrays (now (value .entry)) (now (adjoint .entry)) (now (serial .entry)) (now (count .entry)) (now (child .entry)) (now (partial .entry))) v (edges-told edges) ⌝ }
 {
     let at = handle.index;
     value[at] = v;
@@ -211,12 +269,10 @@ fn write(handle: Handle, value: &mut [f64], adjoint: &mut [f64], serial: &mut [u
 
 fn write_edges(at: usize, count: &mut [u8], child: &mut [u16], partial: &mut [f64], edges: Edges)
     requires { ⌜ EdgeRoom at (now count) (now child) (now partial) ⌝ }
-    ensures {
-        λ _. ⌜
-            (now (count .exit) ≡ set (now (count .entry)) at (length (edges-told edges)))
-            × (now (child .exit) ≡ sets (now (child .entry)) (slot at) (map (λ e. e .child) (edges-told edges)))
-            × (now (partial .exit) ≡ sets (now (partial .entry)) (slot at) (map (λ e. e .weight) (edges-told edges))) ⌝
-    }
+    ensures { λ _. ⌜
+        (now (count .exit) ≡ set (now (count .entry)) at (length (edges-told edges)))
+        × (now (child .exit) ≡ sets (now (child .entry)) (slot at) (map (λ e. e .child) (edges-told edges)))
+        × (now (partial .exit) ≡ sets (now (partial .entry)) (slot at) (map (λ e. e .weight) (edges-told edges))) ⌝ }
 {
     let slot = 2 * at;
     match edges {

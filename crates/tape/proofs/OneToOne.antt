@@ -4,7 +4,7 @@ use mathlib.Core.Path.{_≡_, refl, sym, ap, _∙_}
 use mathlib.Core.List.{[], _∷_}
 use lib.ListN.{getD}
 use Rattle.tape.specs.Numbers.{floats}
-use Rattle.tape.specs.Machine.{Arrays, new-tape}
+use Rattle.tape.specs.Machine.{Arrays}
 use Rattle.tape.specs.Answers.{number, outcome, Told}
 use Rattle.tape.specs.declared.errors.Refusal.{Refusal}
 use Rattle.tape.specs.declared.errors.Refusal.the-variants.{Misshapen, UnknownOperation, NotLive, Detached, Full, SerialsSpent, UnsoundEdge, ListingTooLong}
@@ -12,25 +12,29 @@ use Rattle.tape.specs.declared.state.Moved.{Moved}
 use Rattle.tape.specs.declared.state.Moved.the-variants.{Done, Refused}
 use Rattle.tape.specs.declared.state.Tape.{Tape}
 
-abbrev meant : ℕ → Tape → Moved
-meant k = getD (Done ∷ Refused Misshapen ∷ Refused UnknownOperation ∷ Refused NotLive ∷ Refused Detached ∷ Refused Full ∷ Refused SerialsSpent ∷ Refused UnsoundEdge ∷ Refused ListingTooLong ∷ []) k Done
+-- x at number 0, and f of the refusal that has the number
+abbrev pub by-number : {A : Type 0} → A → (Refusal → A) → ℕ → A
+by-number x f k = getD (x ∷ f Misshapen ∷ f UnknownOperation ∷ f NotLive ∷ f Detached ∷ f Full ∷ f SerialsSpent ∷ f UnsoundEdge ∷ f ListingTooLong ∷ []) k x
 
-refusal-meant : (r : Refusal) (t : Tape) → meant (number r) t ≡ Refused r t
-refusal-meant Misshapen t = refl
-refusal-meant UnknownOperation t = refl
-refusal-meant NotLive t = refl
-refusal-meant Detached t = refl
-refusal-meant Full t = refl
-refusal-meant SerialsSpent t = refl
-refusal-meant UnsoundEdge t = refl
-refusal-meant ListingTooLong t = refl
+pub at-refusal : {A : Type 0} (x : A) (f : Refusal → A) (r : Refusal) → by-number x f (number r) ≡ f r
+at-refusal x f Misshapen = refl
+at-refusal x f UnknownOperation = refl
+at-refusal x f NotLive = refl
+at-refusal x f Detached = refl
+at-refusal x f Full = refl
+at-refusal x f SerialsSpent = refl
+at-refusal x f UnsoundEdge = refl
+at-refusal x f ListingTooLong = refl
+
+abbrev meant : ℕ → Tape → Moved
+meant k t = by-number (Done t) (λ r. Refused r t) k
 
 read-back : (x : Moved) (A : Arrays floats) → meant (outcome x A .0 .number) (outcome x A .1 .state) ≡ x
 read-back (Done t) A = refl
-read-back (Refused r t) A = refusal-meant r t
+read-back (Refused r t) A = at-refusal (Done t) (λ r. Refused r t) r
 
 pub told : Told
 told = record {
-  numbers = λ r s e. cc (refusal-meant r new-tape, refusal-meant s new-tape);
+  numbers = λ r s e. sym (at-refusal Misshapen (λ q. q) r) ∙ ap (by-number Misshapen (λ q. q)) e ∙ at-refusal Misshapen (λ q. q) s;
   moves = λ x y A e. sym (read-back x A) ∙ ap (λ o. meant (o .0 .number) (o .1 .state)) e ∙ read-back y A;
 }

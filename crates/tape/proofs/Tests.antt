@@ -21,7 +21,6 @@ pub every : (bs : List Bool) → all bs ≡ true → Every bs
 every [] e = tt
 every (b ∷ bs) e = let both = and-eq-true-iff b (all bs) .0 e in (both .0, every bs (both .1))
 
-
 pub record StateFit (n : ℕ) (t : Tape) : Type 0 where
   pub length : t .length ≤ n
   pub mark : t .mark ≤ t .length
