@@ -50,7 +50,7 @@ impl Tape {
             length: 0,
             mark: 0,
             active: true,
-            next: self.next,
+            next: self.next, // Not 1: an old handle would come to life.
         })
     }
 
