@@ -8,7 +8,7 @@ use lib.Ieee.{Float, nan, binary64, ofBits}
 use Rattle.tape.specs.Numbers.{Numbers, floats}
 use Rattle.tape.specs.Machine.{Arrays, Machine, machine, capacity, slot}
 use Rattle.tape.specs.Handles.{lives}
-use Rattle.tape.specs.Operations.{known, apply}
+use Rattle.tape.specs.Operations.{known, one-sided, apply}
 use Rattle.tape.specs.Operations as operations
 use Rattle.tape.specs.Answers.{Answer, refused, detached, recorded}
 use Rattle.tape.specs.Calls.{Edge, with-node, allocated}
@@ -18,7 +18,7 @@ use Rattle.tape.specs.declared.node.Operand.{Operand}
 use Rattle.tape.specs.declared.node.Operand.the-variants as operand
 use Rattle.tape.specs.declared.state.Alloc.{Alloc}
 use Rattle.tape.specs.declared.state.Alloc.the-variants as alloc
-use Rattle.expr.specs.Table.{given, uses-of}
+use Rattle.expr.specs.Table.{given}
 use Rattle.expr.specs.declared.operations.Row.{Row}
 use Rattle.expr.specs.declared.operations.Row.the-variants as row
 use Rattle.expr.specs.declared.operations.Supplied.{Supplied}
@@ -38,6 +38,10 @@ pub record Reads (n : ℕ) (values : List Float) : Type 0 where
   pub small : n ≤ 65535
 
 -- ---- operands
+
+-- which operands an operation uses
+abbrev pub uses-of : ℕ → Uses
+uses-of op = cond (known op) (cond (one-sided op) uses.Left uses.Both) uses.Unknown
 
 abbrev pub unlinked : Float → Source
 unlinked x = record { value = x; linked = false; child = 0 }

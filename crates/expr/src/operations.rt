@@ -2,7 +2,8 @@
 ghost use mathlib.Core.Path.{_≡_};
 ghost use mathlib.Core.Bool.{cond};
 ghost use Rattle.tape.specs.Operations.{known, apply};
-ghost use Rattle.expr.specs.Table.{given, told-row, uses-of};
+ghost use Rattle.expr.specs.Inner.{uses-of};
+ghost use Rattle.expr.specs.Table.{given, told-row};
 
 // What the host supplies for operations 8 and 9.
 pub struct Supplied {
@@ -47,14 +48,14 @@ pub fn apply(op: u8, l: f64, r: f64, supplied: Supplied) -> Row
 }
 
 // Which operands an operation uses.
-pub enum Uses {
+pub(crate) enum Uses {
     Unknown,
     Left,
     Both,
 }
 
 // Operations 0, 7 and 8 use the left operand alone.
-pub fn used(op: u8) -> Uses
+pub(crate) fn used(op: u8) -> Uses
     ensures { λ x. ⌜ x ≡ uses-of op ⌝ }
 {
     match op {

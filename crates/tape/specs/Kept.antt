@@ -60,9 +60,13 @@ abbrev pub Ascending : ℕ → List ℕ → Type 0
 Ascending k [] = Unit {0}
 Ascending k (s ∷ ss) = (k ≤ s) × Ascending (s + 1) ss
 
+abbrev pub NoneNought : List ℕ → Type 0
+NoneNought [] = Unit {0}
+NoneNought (s ∷ ss) = (s ≡ 0 → ⊥) × NoneNought ss
+
 pub record Serials : Type 1 where
-  pub never-fall : {N : Numbers} (c : Call N) (M : Machine N) → M .state .next ≤ step c M .1 .state .next
-  pub never-nought : {N : Numbers} (c : Call N) (M : Machine N) (h : Handle) → step c M .0 .handle ≡ some h → h .serial ≡ 0 → ⊥
+  pub never-fall : {N : Numbers} (cs : List (Call N)) (M : Machine N) → M .state .next ≤ after cs M .state .next
+  pub never-nought : {N : Numbers} (cs : List (Call N)) (M : Machine N) → NoneNought (serials (run cs M .0))
   pub never-repeat : {N : Numbers} (cs : List (Call N)) (M : Machine N) → Ascending (M .state .next) (serials (run cs M .0))
 
 -- ---- recording
