@@ -52,7 +52,6 @@ fn at(
     partial: &mut [f64],
 )
     requires { ⌜ (n ≤ 65536) × (n ≤ length (now value)) × (n ≤ length (now adjoint)) × (n ≤ length (now serial)) × (n ≤ length (now count)) × (2 * n ≤ length (now child)) × (2 * n ≤ length (now partial)) ⌝ }
-    ensures { λ _. ⌜ (length (now (value .exit)) ≡ length (now (value .entry))) × (length (now (adjoint .exit)) ≡ length (now (adjoint .entry))) × (length (now (serial .exit)) ≡ length (now (serial .entry))) × (length (now (count .exit)) ≡ length (now (count .entry))) × (length (now (child .exit)) ≡ length (now (child .entry))) × (length (now (partial .exit)) ≡ length (now (partial .entry))) ⌝ }
 {
     let slots = 2 * n;
     session::run(

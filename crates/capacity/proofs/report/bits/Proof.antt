@@ -1,20 +1,21 @@
+-- `bits` asks for the bits of no NaN: a float that equals itself is none.
+use mathlib.Core.Bool.{Bool, false, true, not}
+use mathlib.Core.Path.{_≡_}
+use Prim.Native.Nat.{ℕ}
 use borrow.Author.Needs.{needs}
+use native.Mathlib.Omega.{arith}
+use lib.Dec.{T}
+use lib.Ieee.{Float, nan, inf, fin, eq, ne, isNan}
 use Rattle.capacity.proofs.report.bits.Statement.{statement}
 use Rattle.capacity.proofs.report.bits.Tie as tie
-use Rattle.capacity.proofs.report.bits.Reads as reads
-use Rattle.capacity.proofs.report.bits.Lts as lts
 
--- src/report.rt:82:30
-float-to-bits-result : tie.Need-float-to-bits-result
-float-to-bits-result c = ?
-
--- src/report.rt:81:1
-returns : tie.Need-returns
-returns c = search needs
-
--- src/report.rt:81:1
-returns-2 : tie.Need-returns-2
-returns-2 c = search needs
+no-nan : (x : Float) → ne x x ≡ false → T (not (isNan x))
+unfolding ne eq isNan
+no-nan nan h = let z : _≡_ {A = ℕ} 0 1 = cc in omega arith
+no-nan (inf s) h = tt
+no-nan (fin s m e) h = tt
 
 pub bits-spec : {M : Type 1} → statement M
-bits-spec = tie.close (tie.spec float-to-bits-result returns returns-2)
+bits-spec =
+    tie.close
+    (tie.spec (λ c. no-nan (c .before .args .x) (c .if1 .left)) (λ c. search needs) (λ c. search needs))
