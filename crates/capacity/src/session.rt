@@ -1,4 +1,4 @@
-// One session: a tape is filled, rewound and stopped, and every call's answer is written down.
+// One session: a tape is filled, rewound and stopped, and every answer on the way is written down.
 use crate::filling;
 use crate::report;
 use tape::Handle;
@@ -7,7 +7,6 @@ use tape::Tape;
 ghost use Prim.Native.Nat.{_≤_};
 ghost use lib.ListN.{length};
 
-// A leaf past the last one is tried while active and again once stopped; the first leaf's handle is tried before the rewind, where it is live, and after.
 pub(crate) fn run(
     value: &mut [f64],
     adjoint: &mut [f64],
@@ -23,13 +22,35 @@ pub(crate) fn run(
     let filled = filling::fill(tape, value, adjoint, serial, count, child, partial);
     report::filled(n, filled);
     let first = filled.first;
-    let tape = leaf(filled.tape, value, adjoint, serial, count, child, partial);
-    let tape = use_first(tape, value, adjoint, serial, count, child, partial, first);
+    let tape = probe(
+        filled.tape,
+        value,
+        adjoint,
+        serial,
+        count,
+        child,
+        partial,
+        first,
+    );
     let tape = report::moved(n, b"rewind to init", tape.rewind_to_init());
-    let tape = leaf(tape, value, adjoint, serial, count, child, partial);
-    let tape = use_first(tape, value, adjoint, serial, count, child, partial, first);
+    let tape = probe(tape, value, adjoint, serial, count, child, partial, first);
     let tape = report::moved(n, b"stop", tape.stop_recording());
-    leaf(tape, value, adjoint, serial, count, child, partial);
+    probe(tape, value, adjoint, serial, count, child, partial, first);
+}
+
+// One more leaf, and then the first leaf's handle as an operand.
+fn probe(
+    tape: Tape,
+    value: &mut [f64],
+    adjoint: &mut [f64],
+    serial: &mut [u64],
+    count: &mut [u8],
+    child: &mut [u16],
+    partial: &mut [f64],
+    first: Handle,
+) -> Tape {
+    let tape = leaf(tape, value, adjoint, serial, count, child, partial, 2.5);
+    negated(tape, value, adjoint, serial, count, child, partial, first)
 }
 
 fn leaf(
@@ -40,23 +61,14 @@ fn leaf(
     count: &mut [u8],
     child: &mut [u16],
     partial: &mut [f64],
+    x: f64,
 ) -> Tape {
     let n = value.len();
-    let answer = expr::operators::new_leaf(
-        tape,
-        value,
-        adjoint,
-        serial,
-        count,
-        child,
-        partial,
-        2.5,
-    );
+    let answer = expr::operators::new_leaf(tape, value, adjoint, serial, count, child, partial, x);
     report::recorded(n, b"leaf", answer)
 }
 
-// The first leaf's handle as an operand.
-fn use_first(
+fn negated(
     tape: Tape,
     value: &mut [f64],
     adjoint: &mut [f64],
@@ -67,15 +79,7 @@ fn use_first(
     first: Handle,
 ) -> Tape {
     let n = value.len();
-    let answer = expr::operators::neg(
-        tape,
-        value,
-        adjoint,
-        serial,
-        count,
-        child,
-        partial,
-        Operand::Node(first),
-    );
-    report::recorded(n, b"first negated", answer)
+    let x = Operand::Node(first);
+    let answer = expr::operators::neg(tape, value, adjoint, serial, count, child, partial, x);
+    report::recorded(n, b"first leaf negated", answer)
 }

@@ -5,87 +5,63 @@ use Rattle.capacity.proofs.at.Reads as reads
 use Rattle.capacity.proofs.at.Lts as lts
 use Rattle.capacity.proofs.session.run.Reads as run-reads
 
--- src/main.rt:56:17
+-- src/main.rt:25:17
 mul-slots : tie.Need-mul-slots
 mul-slots c = search needs
 
--- src/main.rt:58:9
-slice-relend-prefix-run : tie.Need-slice-relend-prefix-run
-slice-relend-prefix-run c = search needs
+-- src/main.rt:27:9
+array-borrow-prefix-value : tie.Need-array-borrow-prefix-value
+array-borrow-prefix-value c = search needs
 
--- src/main.rt:58:9
+-- src/main.rt:27:9
 slice-aggregate-run : tie.Need-slice-aggregate-run
 slice-aggregate-run c = ?
 
--- src/main.rt:59:9
-slice-relend-prefix-run-2 : tie.Need-slice-relend-prefix-run-2
-slice-relend-prefix-run-2 c = search needs
+-- src/main.rt:28:9
+array-borrow-prefix-adjoint : tie.Need-array-borrow-prefix-adjoint
+array-borrow-prefix-adjoint c = search needs
 
--- src/main.rt:59:9
+-- src/main.rt:28:9
 slice-aggregate-run-2 : tie.Need-slice-aggregate-run-2
 slice-aggregate-run-2 c = ?
 
--- src/main.rt:60:9
-slice-relend-prefix-run-3 : tie.Need-slice-relend-prefix-run-3
-slice-relend-prefix-run-3 c = search needs
+-- src/main.rt:29:9
+array-borrow-prefix-serial : tie.Need-array-borrow-prefix-serial
+array-borrow-prefix-serial c = search needs
 
--- src/main.rt:60:9
+-- src/main.rt:29:9
 slice-aggregate-run-3 : tie.Need-slice-aggregate-run-3
 slice-aggregate-run-3 c = ?
 
--- src/main.rt:61:9
-slice-relend-prefix-run-4 : tie.Need-slice-relend-prefix-run-4
-slice-relend-prefix-run-4 c = search needs
+-- src/main.rt:30:9
+array-borrow-prefix-count : tie.Need-array-borrow-prefix-count
+array-borrow-prefix-count c = search needs
 
--- src/main.rt:61:9
+-- src/main.rt:30:9
 slice-aggregate-run-4 : tie.Need-slice-aggregate-run-4
 slice-aggregate-run-4 c = ?
 
--- src/main.rt:62:9
-slice-relend-prefix-run-5 : tie.Need-slice-relend-prefix-run-5
-slice-relend-prefix-run-5 c = search needs
+-- src/main.rt:31:9
+array-borrow-prefix-child : tie.Need-array-borrow-prefix-child
+array-borrow-prefix-child c = search needs
 
--- src/main.rt:62:9
+-- src/main.rt:31:9
 slice-aggregate-run-5 : tie.Need-slice-aggregate-run-5
 slice-aggregate-run-5 c = ?
 
--- src/main.rt:63:9
-slice-relend-prefix-run-6 : tie.Need-slice-relend-prefix-run-6
-slice-relend-prefix-run-6 c = search needs
+-- src/main.rt:32:9
+array-borrow-prefix-partial : tie.Need-array-borrow-prefix-partial
+array-borrow-prefix-partial c = search needs
 
--- src/main.rt:63:9
+-- src/main.rt:32:9
 slice-aggregate-run-6 : tie.Need-slice-aggregate-run-6
 slice-aggregate-run-6 c = ?
 
--- src/main.rt:57:5
+-- src/main.rt:26:5
 run-requires : tie.Need-run-requires
 run-requires c κs = ?
 
--- src/main.rt:45:1
-same-length : tie.Need-same-length
-same-length c = search needs
-
--- src/main.rt:45:1
-same-length-2 : tie.Need-same-length-2
-same-length-2 c = search needs
-
--- src/main.rt:45:1
-same-length-3 : tie.Need-same-length-3
-same-length-3 c = search needs
-
--- src/main.rt:45:1
-same-length-4 : tie.Need-same-length-4
-same-length-4 c = search needs
-
--- src/main.rt:45:1
-same-length-5 : tie.Need-same-length-5
-same-length-5 c = search needs
-
--- src/main.rt:45:1
-same-length-6 : tie.Need-same-length-6
-same-length-6 c = search needs
-
--- src/main.rt:45:1
+-- src/main.rt:16:1
 returns : tie.Need-returns
 returns c = search needs
 
@@ -94,23 +70,17 @@ at-spec =
     tie.close
     (tie.spec
     mul-slots
-    slice-relend-prefix-run
+    array-borrow-prefix-value
     slice-aggregate-run
-    slice-relend-prefix-run-2
+    array-borrow-prefix-adjoint
     slice-aggregate-run-2
-    slice-relend-prefix-run-3
+    array-borrow-prefix-serial
     slice-aggregate-run-3
-    slice-relend-prefix-run-4
+    array-borrow-prefix-count
     slice-aggregate-run-4
-    slice-relend-prefix-run-5
+    array-borrow-prefix-child
     slice-aggregate-run-5
-    slice-relend-prefix-run-6
+    array-borrow-prefix-partial
     slice-aggregate-run-6
     run-requires
-    same-length
-    same-length-2
-    same-length-3
-    same-length-4
-    same-length-5
-    same-length-6
     returns)
