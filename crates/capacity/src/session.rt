@@ -1,5 +1,6 @@
 // One session: a tape is filled, rewound and stopped, and every answer on the way is written down.
 use crate::filling;
+use crate::filling::Filled;
 use crate::report;
 use tape::Handle;
 use tape::Operand;
@@ -17,21 +18,42 @@ pub(crate) fn run(
 )
     requires { ⌜ length (now value) ≤ 65536 ⌝ }
 {
+    let filled = fill_up(value, adjoint, serial, count, child, partial);
+    wind_down(filled, value, adjoint, serial, count, child, partial);
+}
+
+fn fill_up(
+    value: &mut [f64],
+    adjoint: &mut [f64],
+    serial: &mut [u64],
+    count: &mut [u8],
+    child: &mut [u16],
+    partial: &mut [f64],
+) -> Filled
+    requires { ⌜ length (now value) ≤ 65536 ⌝ }
+{
     let n = value.len();
     let tape = report::moved(n, b"start", Tape::new().start_recording());
-    let filled = filling::fill(tape, value, adjoint, serial, count, child, partial);
+    let mut filled = filling::fill(tape, value, adjoint, serial, count, child, partial);
     report::filled(n, filled);
+    let tape = filled.tape;
     let first = filled.first;
-    let tape = probe(
-        filled.tape,
-        value,
-        adjoint,
-        serial,
-        count,
-        child,
-        partial,
-        first,
-    );
+    filled.tape = probe(tape, value, adjoint, serial, count, child, partial, first);
+    filled
+}
+
+fn wind_down(
+    filled: Filled,
+    value: &mut [f64],
+    adjoint: &mut [f64],
+    serial: &mut [u64],
+    count: &mut [u8],
+    child: &mut [u16],
+    partial: &mut [f64],
+) {
+    let n = value.len();
+    let first = filled.first;
+    let tape = filled.tape;
     let tape = report::moved(n, b"rewind to init", tape.rewind_to_init());
     let tape = probe(tape, value, adjoint, serial, count, child, partial, first);
     let tape = report::moved(n, b"stop", tape.stop_recording());

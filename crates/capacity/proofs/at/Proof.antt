@@ -1,4 +1,6 @@
+use mathlib.Core.Path.{sym}
 use borrow.Author.Needs.{needs}
+use lib.Seq.{length-take-le}
 use Rattle.capacity.proofs.at.Statement.{statement}
 use Rattle.capacity.proofs.at.Tie as tie
 use Rattle.capacity.proofs.at.Reads as reads
@@ -15,7 +17,7 @@ array-borrow-prefix-value c = search needs
 
 -- src/main.rt:27:9
 slice-aggregate-run : tie.Need-slice-aggregate-run
-slice-aggregate-run c = ?
+slice-aggregate-run c = sym (length-take-le _ _ (search needs))
 
 -- src/main.rt:28:9
 array-borrow-prefix-adjoint : tie.Need-array-borrow-prefix-adjoint
@@ -23,7 +25,7 @@ array-borrow-prefix-adjoint c = search needs
 
 -- src/main.rt:28:9
 slice-aggregate-run-2 : tie.Need-slice-aggregate-run-2
-slice-aggregate-run-2 c = ?
+slice-aggregate-run-2 c = sym (length-take-le _ _ (search needs))
 
 -- src/main.rt:29:9
 array-borrow-prefix-serial : tie.Need-array-borrow-prefix-serial
@@ -31,7 +33,7 @@ array-borrow-prefix-serial c = search needs
 
 -- src/main.rt:29:9
 slice-aggregate-run-3 : tie.Need-slice-aggregate-run-3
-slice-aggregate-run-3 c = ?
+slice-aggregate-run-3 c = sym (length-take-le _ _ (search needs))
 
 -- src/main.rt:30:9
 array-borrow-prefix-count : tie.Need-array-borrow-prefix-count
@@ -39,7 +41,7 @@ array-borrow-prefix-count c = search needs
 
 -- src/main.rt:30:9
 slice-aggregate-run-4 : tie.Need-slice-aggregate-run-4
-slice-aggregate-run-4 c = ?
+slice-aggregate-run-4 c = sym (length-take-le _ _ (search needs))
 
 -- src/main.rt:31:9
 array-borrow-prefix-child : tie.Need-array-borrow-prefix-child
@@ -47,7 +49,7 @@ array-borrow-prefix-child c = search needs
 
 -- src/main.rt:31:9
 slice-aggregate-run-5 : tie.Need-slice-aggregate-run-5
-slice-aggregate-run-5 c = ?
+slice-aggregate-run-5 c = sym (length-take-le _ _ (search needs))
 
 -- src/main.rt:32:9
 array-borrow-prefix-partial : tie.Need-array-borrow-prefix-partial
@@ -55,7 +57,7 @@ array-borrow-prefix-partial c = search needs
 
 -- src/main.rt:32:9
 slice-aggregate-run-6 : tie.Need-slice-aggregate-run-6
-slice-aggregate-run-6 c = ?
+slice-aggregate-run-6 c = sym (length-take-le _ _ (search needs))
 
 -- src/main.rt:26:5
 run-requires : tie.Need-run-requires
