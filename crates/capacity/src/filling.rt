@@ -1,11 +1,11 @@
-// Leaves asked for one after another, as many as the tape has room for, and what their answers come to.
+// Leaves asked for one after another, as many as the arrays have entries, and what their answers come to.
 use expr::Recorded;
 use tape::Handle;
 use tape::Tape;
 ghost use Prim.Native.Nat.{_≤_, _<_};
 ghost use lib.ListN.{length};
 
-// A handle with serial 0 is never live: there was none.
+// Stands where no leaf was recorded: a handle with serial 0 is never live.
 const NO_HANDLE: Handle = Handle {
     index: 0,
     serial: 0,

@@ -60,7 +60,7 @@ fn wind_down(
     probe(tape, value, adjoint, serial, count, child, partial, first);
 }
 
-// One more leaf, and then the first leaf's handle as an operand.
+// One more leaf, and then the first leaf's handle as an operand. On the full tape it is live, so that only the room is missing: without that, a lookup that finds nothing would pass.
 fn probe(
     tape: Tape,
     value: &mut [f64],
