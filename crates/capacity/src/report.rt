@@ -1,0 +1,92 @@
+// What is written to standard output: a line an answer, with the state that it hands back.
+use crate::filling::Filled;
+use expr::Recorded;
+use libc::STDOUT_FILENO;
+use tape::Handle;
+use tape::Moved;
+use tape::Refusal;
+use tape::Tape;
+
+const DIGITS: usize = 16;
+
+const NAN: u64 = 0x7ff8_0000_0000_0000;
+
+pub(crate) fn moved(capacity: usize, call: &[u8], answer: Moved) -> Tape {
+    begin(capacity, call);
+    match answer {
+        Moved::Done(tape) => end(tape),
+        Moved::Refused(refusal, tape) => refused(refusal, tape),
+    }
+}
+
+pub(crate) fn recorded(capacity: usize, call: &[u8], answer: Recorded) -> Tape {
+    begin(capacity, call);
+    match answer {
+        Recorded::Node(x, handle, tape) => {
+            float(x);
+            node(handle);
+            end(tape)
+        }
+        Recorded::Detached(x, tape) => {
+            float(x);
+            text(b" detached");
+            end(tape)
+        }
+        Recorded::Refused(refusal, tape) => refused(refusal, tape),
+    }
+}
+
+pub(crate) fn filled(capacity: usize, filled: Filled) {
+    begin(capacity, b"leaves");
+    number(b" in_order=", filled.in_order as u64);
+    text(b" first");
+    node(filled.first);
+    text(b" last");
+    node(filled.last);
+    end(filled.tape);
+}
+
+fn begin(capacity: usize, call: &[u8]) {
+    number(b"n=", capacity as u64);
+    text(b" ");
+    text(call);
+    text(b":");
+}
+
+fn refused(refusal: Refusal, tape: Tape) -> Tape {
+    number(b" refused=", refusal.number() as u64);
+    end(tape)
+}
+
+fn end(tape: Tape) -> Tape {
+    number(b" length=", tape.length as u64);
+    number(b" mark=", tape.mark as u64);
+    number(b" active=", tape.active as u64);
+    number(b" next=", tape.next);
+    text(b"\n");
+    tape
+}
+
+fn node(handle: Handle) {
+    number(b" index=", handle.index as u64);
+    number(b" serial=", handle.serial);
+}
+
+fn float(x: f64) {
+    text(b" value=");
+    io::print_hex(STDOUT_FILENO, bits(x), DIGITS);
+}
+
+// f64::to_bits is not defined at a NaN.
+fn bits(x: f64) -> u64 {
+    if x != x { NAN } else { f64::to_bits(x) }
+}
+
+fn number(name: &[u8], x: u64) {
+    text(name);
+    io::print_decimal(STDOUT_FILENO, x);
+}
+
+fn text(bytes: &[u8]) {
+    io::write_all(STDOUT_FILENO, bytes);
+}
