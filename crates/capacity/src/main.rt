@@ -1,4 +1,4 @@
-// Runs tapes of capacity 0, 1, 65,535 and 65,536 on real arrays and writes down what every call answers: the row of document 01's edges that is not in the proved table.
+// Runs tapes of capacity 0, 1, 65,535 and 65,536 on real arrays and writes down what the calls answer: the row of document 01's edges that is not in the proved table.
 mod filling;
 mod report;
 mod session;

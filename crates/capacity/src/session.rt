@@ -1,4 +1,4 @@
-// One session: a tape is filled, rewound and stopped, and every answer on the way is written down.
+// One session: a tape is filled, rewound and stopped, and what is answered on the way is written down, the leaves that fill it in one line.
 use crate::filling;
 use crate::filling::Filled;
 use crate::report;

@@ -1,12 +1,12 @@
 -- The rule of a recording, as the code goes about it: what `decide` answers, carried on, is the machine's step.
-use Prim.Native.Nat.{ℕ, zero, suc, _≤_, _<_}
+use Prim.Native.Nat.{ℕ, zero, suc}
 use mathlib.Core.Path.{_≡_, refl, sym, ap, _∙_}
 use mathlib.Core.Bool.{Bool, true, false, not, _&&_, _||_, cond, or-false}
 use mathlib.Core.List.{List, [], _∷_, _++_, append-nil}
 use mathlib.Core.Option.{Option, none, some}
-use borrow.Author.Tests.{eqb-true, leb-true, leb-false, eq-eqb, ne-eqb}
+use borrow.Author.Tests.{eqb-true}
 use native.Mathlib.Omega.{arith}
-use lib.Dec.{leb, eqb}
+use lib.Dec.{eqb}
 use lib.Ieee.{Float, nan, binary64, ofBits}
 use lib.ListN.{getD}
 use Rattle.tape.specs.Numbers.{floats}
@@ -14,15 +14,14 @@ use Rattle.tape.specs.Machine.{Machine, capacity, fits}
 use Rattle.tape.specs.Handles.{plain, node, live, lives, worth, handles, operand}
 use Rattle.tape.specs.Operations.{Row, row, rows, as-stored, apply, known, one-sided, used}
 use Rattle.tape.specs.Answers.{Answer, refused, detached, recorded}
-use Rattle.tape.specs.Calls.{Edge, edge, edges, operate, issued, grown, written, any-stale, last-serial, step}
+use Rattle.tape.specs.Calls.{Edge, edge, edges, operate, issued, written, any-stale, last-serial, step}
 use Rattle.tape.specs.declared.errors.Refusal.{Refusal}
 use Rattle.tape.specs.declared.errors.Refusal.the-variants.{Misshapen, UnknownOperation, NotLive, Full, SerialsSpent}
 use Rattle.tape.specs.declared.node.Operand.{Operand}
 use Rattle.tape.specs.declared.node.Operand.the-variants.{Number, Node}
-use Rattle.tape.specs.declared.state.Alloc as alloc
 use Rattle.tape.proofs.Tests.{Fit, fit}
-use Rattle.expr.specs.Table.{given}
-use Rattle.expr.specs.Inner.{Reads, decided, found-operand, unlinked, made-from, made-of, row-by, row-of, edge-of, edges-of, edges-told, settled, settled-by}
+use Rattle.expr.specs.Outcome.{given}
+use Rattle.expr.specs.Inner.{Reads, decided, found-operand, unlinked, made-from, made-of, row-by, row-of, edge-of, edges-of, edges-told, settled}
 use Rattle.expr.specs.declared.operations.Supplied.{Supplied}
 use Rattle.expr.specs.declared.recording.Source.{Source}
 use Rattle.expr.specs.declared.recording.Found as found
@@ -173,21 +172,13 @@ module _ (M : Machine floats) where
 
 -- ---- room
 
--- refusals 5 and 6, as the table has them and as `allocated` goes about them
+-- refusals 5 and 6, as the table has them and as the code goes about them
 room-so : (M : Machine floats) (v : Float) (es : List (Edge floats)) (a b d : Bool)
-    → cond (a && b) (refused Full, M) (cond (a && d) (refused SerialsSpent, M) (cond a (recorded v (issued (M .state)), written M v es) (detached v, M)))
-    ≡ settled-by (cond a (cond b alloc.the-variants.Full (cond d alloc.the-variants.SerialsSpent (alloc.the-variants.Node (issued (M .state)) (grown (M .state))))) alloc.the-variants.Inactive) M v es
+    → _≡_ {A = Outcome}
+    (cond (a && b) (refused Full, M) (cond (a && d) (refused SerialsSpent, M) (cond a (recorded v (issued (M .state)), written M v es) (detached v, M))))
+    (cond a (cond b (refused Full, M) (cond d (refused SerialsSpent, M) (recorded v (issued (M .state)), written M v es))) (detached v, M))
+room-so M v es true b d = refl
 room-so M v es false b d = refl
-room-so M v es true true d = refl
-room-so M v es true false true = refl
-room-so M v es true false false = refl
-
--- a length that is at most n and not below it is n
-full : (i n : ℕ) → i ≤ n → eqb i n ≡ leb n i
-full i n h = by-below (leb n i) refl where
-  by-below : (b : Bool) → leb n i ≡ b → eqb i n ≡ leb n i
-  by-below true e = rw e (let l : n ≤ i = leb-true n i e in eq-eqb i n (omega arith))
-  by-below false e = rw e (let l : i < n = leb-false n i e in ne-eqb i n (λ q. omega arith))
 
 pub refused-so : (M : Machine floats) (op : ℕ) (l r : Operand) (g : Supplied) → fits true M ≡ false → (refused Misshapen, M) ≡ step (operate op (operand l) (operand r) (given g)) M
 unfolding step
@@ -199,11 +190,10 @@ step-so : (M : Machine floats) (op : ℕ) (l r : Operand) (g : Supplied) → fit
 unfolding step
 step-so M op l r g e =
     let s = apply op (worth M (operand l)) (worth M (operand r)) (given g) in
-    let f : Fit M = fit M e in
     rw
-    (e, full (M .state .length) (capacity (M .lent)) (f .state .length))
+    e
     (ap (λ x. cond (not (known op)) (refused UnknownOperation, M) (cond (any-stale M (handles (used op (operand l) (operand r)))) (refused NotLive, M) x))
-    (room-so M (s .value) (edges (operand l) (operand r) s) (M .state .active) (leb (capacity (M .lent)) (M .state .length)) (eqb (M .state .next) last-serial)))
+    (room-so M (s .value) (edges (operand l) (operand r) s) (M .state .active) (eqb (M .state .length) (capacity (M .lent))) (eqb (M .state .next) last-serial)))
 
 -- what `decide` answers, carried on
 module _ (M : Machine floats) (op : ℕ) (l r : Operand) (g : Supplied) (x : Decision) (shape : fits true M ≡ true) (d : x ≡ decided (M .state .length) (M .lent .value) (M .lent .serial) op l r g) where

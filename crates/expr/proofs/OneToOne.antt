@@ -1,4 +1,4 @@
--- What a recording's answer says can be read back from its number, value and handle and the state; a row from what it tells.
+-- What a recording's answer says can be read back from its number, value and handle and the state.
 use Prim.Native.Nat.{ℕ}
 use mathlib.Core.Path.{_≡_, refl, sym, ap, _∙_}
 use mathlib.Core.Option.{Option, none, some}
@@ -10,10 +10,8 @@ use Rattle.tape.specs.declared.node.Handle.{Handle}
 use Rattle.tape.specs.declared.state.Tape.{Tape}
 use Rattle.tape.proofs.OneToOne.{by-number, at-refusal}
 use Rattle.expr.specs.Outcome.{outcome, Told}
-use Rattle.expr.specs.Inner.{row-of}
 use Rattle.expr.specs.declared.recording.Recorded.{Recorded}
 use Rattle.expr.specs.declared.recording.Recorded.the-variants.{Node, Detached, Refused}
-use Rattle.expr.proofs.Table.{row-told}
 
 abbrev answered : Float → Option Handle → Tape → Recorded
 answered v none t = Detached v t
@@ -33,7 +31,4 @@ arrays-back (Detached v t) A = refl
 arrays-back (Refused r t) A = refl
 
 pub told : Told
-told = record {
-  recordings = λ x y A B e. (sym (read-back x A) ∙ ap meant e ∙ read-back y B, sym (arrays-back x A) ∙ ap (λ o. o .1 .lent) e ∙ arrays-back y B);
-  rows = λ x y e. row-told x _ e ∙ sym (row-told y _ refl);
-}
+told x y A B e = (sym (read-back x A) ∙ ap meant e ∙ read-back y B, sym (arrays-back x A) ∙ ap (λ o. o .1 .lent) e ∙ arrays-back y B)

@@ -9,8 +9,7 @@ use lib.Ieee.{Float, nan}
 use lib.ListN.{List·getD-eq-default}
 use Rattle.tape.specs.Numbers.{floats}
 use Rattle.tape.specs.Operations.{Given, Row, row, rows, known, apply}
-use Rattle.expr.specs.Table.{told-row}
-use Rattle.expr.specs.Inner.{row-of, uses-of}
+use Rattle.expr.specs.Inner.{told-row, row-of, uses-of}
 use Rattle.expr.specs.declared.operations.Row as code
 use Rattle.expr.specs.declared.operations.Uses.{Uses}
 use Rattle.expr.specs.declared.operations.Uses.the-variants.{Unknown}

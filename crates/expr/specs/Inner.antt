@@ -1,26 +1,25 @@
 -- What the private functions of src/recording.rt promise: the rule as the code goes about it. Only their proofs use it; every public promise speaks of `step`.
 use Prim.Native.Nat.{ℕ, _+_, _≤_, _<_}
-use mathlib.Core.Bool.{Bool, true, false, not, cond}
+use mathlib.Core.Bool.{Bool, true, false, cond}
 use mathlib.Core.List.{List, [], _∷_}
 use mathlib.Core.Option.{Option, none, some}
+use lib.Dec.{eqb}
 use lib.ListN.{length, getD}
 use lib.Ieee.{Float, nan, binary64, ofBits}
-use Rattle.tape.specs.Numbers.{Numbers, floats}
-use Rattle.tape.specs.Machine.{Arrays, Machine, machine, capacity, slot}
+use Rattle.tape.specs.Numbers.{floats}
+use Rattle.tape.specs.Machine.{Arrays, Machine, capacity, slot}
 use Rattle.tape.specs.Handles.{lives}
-use Rattle.tape.specs.Operations.{known, one-sided, apply}
+use Rattle.tape.specs.Operations.{row, known, one-sided, apply}
 use Rattle.tape.specs.Operations as operations
 use Rattle.tape.specs.Answers.{Answer, refused, detached, recorded}
-use Rattle.tape.specs.Calls.{Edge, with-node, allocated}
+use Rattle.tape.specs.Calls.{Edge, issued, written, last-serial}
 use Rattle.tape.specs.declared.errors.Refusal.the-variants.{UnknownOperation, NotLive, Full, SerialsSpent}
 use Rattle.tape.specs.declared.node.Handle.{Handle}
 use Rattle.tape.specs.declared.node.Operand.{Operand}
 use Rattle.tape.specs.declared.node.Operand.the-variants as operand
-use Rattle.tape.specs.declared.state.Alloc.{Alloc}
-use Rattle.tape.specs.declared.state.Alloc.the-variants as alloc
-use Rattle.expr.specs.Table.{given}
+use Rattle.expr.specs.Outcome.{given}
 use Rattle.expr.specs.declared.operations.Row.{Row}
-use Rattle.expr.specs.declared.operations.Row.the-variants as row
+use Rattle.expr.specs.declared.operations.Row.the-variants as code
 use Rattle.expr.specs.declared.operations.Supplied.{Supplied}
 use Rattle.expr.specs.declared.operations.Uses.{Uses}
 use Rattle.expr.specs.declared.operations.Uses.the-variants as uses
@@ -32,7 +31,7 @@ use Rattle.expr.specs.declared.recording.Edges.the-variants as edges
 use Rattle.expr.specs.declared.recording.Decision.{Decision}
 use Rattle.expr.specs.declared.recording.Decision.the-variants.{Refused, Made}
 
--- a node below the length can be read, and its index is a child's
+-- a node below the length can be read, and its index fits a child's 16 bits
 pub record Reads (n : ℕ) (values : List Float) : Type 0 where
   pub held : n ≤ length values
   pub small : n ≤ 65535
@@ -67,21 +66,28 @@ edge-of s p = cond (s .linked) (edges.One (s .child) p) edges.None
 abbrev pub edges-of : Source → Float → Source → Float → Edges
 edges-of l p r q = cond (l .linked) (cond (r .linked) (edges.Two (l .child) p (r .child) q) (edge-of l p)) (edge-of r q)
 
+-- the row that the code's answer holds, and whether the table has one
+abbrev pub told-row : Row → Bool × operations.Row floats
+told-row code.Unknown = (false, row nan none none)
+told-row (code.Leaf v) = (true, row v none none)
+told-row (code.One v p) = (true, row v (some p) none)
+told-row (code.Two v p q) = (true, row v (some p) (some q))
+
 abbrev pub row-by : Float → Option Float → Option Float → Row
-row-by v none q = row.Leaf v
-row-by v (some p) none = row.One v p
-row-by v (some p) (some q) = row.Two v p q
+row-by v none q = code.Leaf v
+row-by v (some p) none = code.One v p
+row-by v (some p) (some q) = code.Two v p q
 
 -- the code's row of a row of the table
 abbrev pub row-of : Bool → operations.Row floats → Row
-row-of false s = row.Unknown
+row-of false s = code.Unknown
 row-of true s = row-by (s .value) (s .left) (s .right)
 
 abbrev pub made-of : Row → Source → Source → Decision
-made-of row.Unknown l r = Refused UnknownOperation
-made-of (row.Leaf v) l r = Made v edges.None
-made-of (row.One v p) l r = Made v (edge-of l p)
-made-of (row.Two v p q) l r = Made v (edges-of l p r q)
+made-of code.Unknown l r = Refused UnknownOperation
+made-of (code.Leaf v) l r = Made v edges.None
+made-of (code.One v p) l r = Made v (edge-of l p)
+made-of (code.Two v p q) l r = Made v (edges-of l p r q)
 
 abbrev pub made-beside : ℕ → Source → Found → Supplied → Decision
 made-beside op l found.NotLive g = Refused NotLive
@@ -101,14 +107,15 @@ decided n values serials op left right g = decided-by (uses-of op) n values seri
 
 -- ---- room, and the node's place
 
-abbrev pub settled-by : Alloc → Machine floats → Float → List (Edge floats) → Answer floats × Machine floats
-settled-by alloc.Inactive M v es = (detached v, M)
-settled-by alloc.Full M v es = (refused Full, M)
-settled-by alloc.SerialsSpent M v es = (refused SerialsSpent, M)
-settled-by (alloc.Node h t) M v es = (recorded v h, machine t (with-node h (M .lent) v es))
-
 abbrev pub settled : Machine floats → Float → List (Edge floats) → Answer floats × Machine floats
-settled M v es = settled-by (allocated (capacity (M .lent)) (M .state)) M v es
+settled M v es =
+    cond
+    (M .state .active)
+    (cond
+    (eqb (M .state .length) (capacity (M .lent)))
+    (refused Full, M)
+    (cond (eqb (M .state .next) last-serial) (refused SerialsSpent, M) (recorded v (issued (M .state)), written M v es)))
+    (detached v, M)
 
 pub record EdgeRoom (i : ℕ) (counts children : List ℕ) (partials : List Float) : Type 0 where
   pub count : i < length counts

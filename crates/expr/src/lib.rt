@@ -5,6 +5,5 @@ pub mod operations;
 pub mod operators;
 pub mod recording;
 
-pub use operations::Row;
 pub use operations::Supplied;
 pub use recording::Recorded;

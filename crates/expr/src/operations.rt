@@ -2,8 +2,8 @@
 ghost use mathlib.Core.Path.{_≡_};
 ghost use mathlib.Core.Bool.{cond};
 ghost use Rattle.tape.specs.Operations.{known, apply};
-ghost use Rattle.expr.specs.Inner.{uses-of};
-ghost use Rattle.expr.specs.Table.{given, told-row};
+ghost use Rattle.expr.specs.Inner.{told-row, uses-of};
+ghost use Rattle.expr.specs.Outcome.{given};
 
 // What the host supplies for operations 8 and 9.
 pub struct Supplied {
@@ -12,8 +12,8 @@ pub struct Supplied {
     pub right: f64,
 }
 
-// A row of the table: the value, and as many partials as the operation has operands with an edge.
-pub enum Row {
+// A row of the table: the value, and the partials that the table gives.
+pub(crate) enum Row {
     Unknown,
     Leaf(f64),
     One(f64, f64),
@@ -21,7 +21,7 @@ pub enum Row {
 }
 
 // The row of operation op for operands worth l and r.
-pub fn apply(op: u8, l: f64, r: f64, supplied: Supplied) -> Row
+pub(crate) fn apply(op: u8, l: f64, r: f64, supplied: Supplied) -> Row
     ensures { λ x. ⌜ told-row x ≡ (known op, apply op l r (given supplied)) ⌝ }
 {
     match op {
@@ -55,7 +55,7 @@ pub(crate) enum Uses {
 }
 
 // Operations 0, 7 and 8 use the left operand alone.
-pub(crate) fn used(op: u8) -> Uses
+pub(crate) fn operands_of(op: u8) -> Uses
     ensures { λ x. ⌜ x ≡ uses-of op ⌝ }
 {
     match op {

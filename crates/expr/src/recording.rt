@@ -2,7 +2,6 @@
 use crate::operations::Row;
 use crate::operations::Supplied;
 use crate::operations::Uses;
-use tape::Alloc;
 use tape::Handle;
 use tape::Lookup;
 use tape::Operand;
@@ -17,8 +16,7 @@ ghost use Rattle.tape.specs.Numbers.{floats};
 ghost use Rattle.tape.specs.Machine.{arrays, machine, slot, fits};
 ghost use Rattle.tape.specs.Handles.{operand};
 ghost use Rattle.tape.specs.Calls.{step, operate, with-node};
-ghost use Rattle.expr.specs.Table.{given};
-ghost use Rattle.expr.specs.Outcome.{outcome};
+ghost use Rattle.expr.specs.Outcome.{given, outcome};
 ghost use Rattle.expr.specs.Inner.{Reads, Room, EdgeRoom, decided, found-operand, found-node, unlinked, made-from, made-beside, made-of, edge-of, edges-of, edges-told, settled};
 
 // What a recording answers: a value and its node's handle, or a value alone where the tape is inactive, with the state after it; or the refusal and the state as it was.
@@ -28,7 +26,7 @@ pub enum Recorded {
     Refused(Refusal, Tape),
 }
 
-// Records operation op on its operands. Refuses what does not fit (1), an unknown operation (2), an operand that is used and not live (3) and, while active, a full tape (5, 6).
+// Records operation op on its operands. Refuses what does not fit (1), an unknown operation (2), an operand that is used and not live (3) and, while active, a full tape (5) or spent serials (6).
 pub fn record(
     tape: Tape,
     value: &mut [f64],
@@ -64,6 +62,9 @@ pub fn record(
         ),
     }
 }
+
+// The last serial is never given out, so that the next one fits.
+const LAST_SERIAL: u64 = 18_446_744_073_709_551_615;
 
 // An operand that may be used: its value and, if it is on the tape, its index as an edge's child.
 pub(crate) struct Source {
@@ -102,11 +103,11 @@ fn decide(
     requires { ⌜ Reads length (now value) ⌝ }
     ensures { λ x. ⌜ x ≡ decided length (now (value .entry)) (now (serial .entry)) op left right supplied ⌝ }
 {
-    match crate::operations::used(op) {
+    match crate::operations::operands_of(op) {
         Uses::Unknown => Decision::Refused(Refusal::UnknownOperation),
         Uses::Left => {
             let l = find(length, value, serial, left);
-            from_left(op, l, Found::Source(plain(0.0)), supplied)
+            from_left(op, l, Found::Source(unlinked(0.0)), supplied)
         }
         Uses::Both => {
             let l = find(length, value, serial, left);
@@ -121,12 +122,12 @@ fn find(length: usize, value: &[f64], serial: &[u64], operand: Operand) -> Found
     ensures { λ x. ⌜ x ≡ found-operand length (now (value .entry)) (now (serial .entry)) operand ⌝ }
 {
     match operand {
-        Operand::Number(x) => Found::Source(plain(x)),
+        Operand::Number(x) => Found::Source(unlinked(x)),
         Operand::Node(handle) => find_node(length, value, serial, handle),
     }
 }
 
-fn plain(x: f64) -> Source
+fn unlinked(x: f64) -> Source
     ensures { λ s. ⌜ s ≡ unlinked x ⌝ }
 {
     Source {
@@ -207,7 +208,7 @@ fn link_both(l: Source, p: f64, r: Source, q: f64) -> Edges
     Edges::Two(l.child, p, r.child, q)
 }
 
-// Asks the tape for room, and writes the node where there is some.
+// Writes the node if the tape is active and has room for it.
 fn settle(
     tape: Tape,
     value: &mut [f64],
@@ -224,25 +225,34 @@ fn settle(
         outcome x (arrays {N = floats} (now (value .exit)) (now (adjoint .exit)) (now (serial .exit)) (now (count .exit)) (now (child .exit)) (now (partial .exit)))
         ≡ settled (machine tape (arrays (now (value .entry)) (now (adjoint .entry)) (now (serial .entry)) (now (count .entry)) (now (child .entry)) (now (partial .entry)))) v (edges-told edges) ⌝ }
 {
-    match tape.alloc(value.len()) {
-        Alloc::Inactive => Recorded::Detached(v, tape),
-        Alloc::Full => Recorded::Refused(Refusal::Full, tape),
-        Alloc::SerialsSpent => Recorded::Refused(Refusal::SerialsSpent, tape),
-        Alloc::Node(handle, after) => {
-            write(
-                handle,
-                value,
-                adjoint,
-                serial,
-                count,
-                child,
-                partial,
-                v,
-                edges,
-            );
-            Recorded::Node(v, handle, after)
-        }
+    if !tape.active {
+        return Recorded::Detached(v, tape);
     }
+    if tape.length == value.len() {
+        return Recorded::Refused(Refusal::Full, tape);
+    }
+    if tape.next == LAST_SERIAL {
+        return Recorded::Refused(Refusal::SerialsSpent, tape);
+    }
+    let handle = Handle {
+        index: tape.length,
+        serial: tape.next,
+    };
+    let mut after = tape;
+    after.length = tape.length + 1;
+    after.next = tape.next + 1;
+    write(
+        handle,
+        value,
+        adjoint,
+        serial,
+        count,
+        child,
+        partial,
+        v,
+        edges,
+    );
+    Recorded::Node(v, handle, after)
 }
 
 fn write(

@@ -7,11 +7,11 @@ use mathlib.Core.List.{List}
 use lib.ListN.{length, getD, set}
 use lib.Seq.{getD-set-same, getD-set-other}
 use Rattle.tape.specs.Numbers.{Numbers}
-use Rattle.tape.specs.Machine.{Machine}
+use Rattle.tape.specs.Machine.{Arrays, Machine}
 use Rattle.tape.specs.Handles.{live}
 use Rattle.tape.specs.Answers.{Answer}
 use Rattle.tape.specs.Calls.{Call}
-use Rattle.tape.specs.Kept.{StaleHandles, Issued, fresh, after}
+use Rattle.tape.specs.Kept.{StaleHandles, SerialsIssued, fresh, after}
 use Rattle.tape.specs.declared.node.Handle.{Handle}
 use Rattle.tape.proofs.Serials.{never-fall}
 use Rattle.tape.proofs.Steps.{Effect, keeps, records, Lives, lives-told, lives-so, kept, last-or-below}
@@ -21,7 +21,7 @@ after-set : (P : ℕ → ℕ → Type 0) (l : List ℕ) (n v : ℕ) → n < leng
 after-set P l n v h new old =
     last-or-below (λ i. P i (getD (set l n v) i 0)) n (rw (getD-set-same l n v 0 h) new) (λ i b. rw (getD-set-other l n i v 0 (λ e. omega arith)) (old i b))
 
-issued-kept : {N : Numbers} (M : Machine N) (x : Answer N × Machine N) → Effect M x → Issued M → Issued (x .1)
+issued-kept : {N : Numbers} (M : Machine N) (x : Answer N × Machine N) → Effect M x → SerialsIssued M → SerialsIssued (x .1)
 issued-kept M _ (keeps l) is = λ i h. is i (omega arith)
 issued-kept M _ (records v es r s) is = after-set (λ i k. k < M .state .next + 1) (M .lent .serial) _ _ (omega arith) (omega arith) (λ i h. omega (arith, is i h))
 
@@ -46,7 +46,7 @@ is-false : (b : Bool) → (b ≡ true → ⊥) → b ≡ false
 is-false true f = absurd (f refl)
 is-false false f = refl
 
-module _ {N : Numbers} (M : Machine N) (h : Handle) (is : Issued M) (was : live M h ≡ true) where
+module _ {N : Numbers} (M : Machine N) (h : Handle) (is : SerialsIssued M) (was : live M h ≡ true) where
   -- its serial was given out, and still is
   given-out : (cs : List (Call N)) → h .serial < after cs M .state .next
   given-out cs =
@@ -58,8 +58,12 @@ module _ {N : Numbers} (M : Machine N) (h : Handle) (is : Issued M) (was : live 
       let p : Past h (after between M) = record { dead = λ a. true≢false (sym (lives-so _ _ h a) ∙ stopped); serial = given-out between } in
       is-false _ (λ t. kept (Past h) (past-kept h) later (after between M) p .dead (lives-told _ _ h t))
 
+from-new : {N : Numbers} (A : Arrays N) (cs : List (Call N)) → SerialsIssued (after cs (fresh A))
+from-new A cs = kept SerialsIssued issued-kept cs (fresh A) (λ i h. absurd (omega arith))
+
 pub stale-handles : StaleHandles
 stale-handles = record {
-  from-new = λ A cs. kept Issued issued-kept cs (fresh A) (λ i h. absurd (omega arith));
+  never-again-from-new = λ A h before between later was. never-again (after before (fresh A)) h (from-new A before) was between later;
+  from-new = from-new;
   never-again = λ M h between later is was. never-again M h is was between later;
 }

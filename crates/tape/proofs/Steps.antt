@@ -15,7 +15,7 @@ use Rattle.tape.specs.Machine.{Machine, arrays, machine, capacity, slot,
 use Rattle.tape.specs.Handles.{Operand, plain, node, live, worth, handles, lives}
 use Rattle.tape.specs.Operations.{Given, apply, one-sided}
 use Rattle.tape.specs.Answers.{Answer, answer, refused, recorded}
-use Rattle.tape.specs.Calls.{Move, start, stop, set-mark, reset-mark, rewind-to-mark, rewind-to-init, Call, move, operate, Edge, edge, edges, issued, written, asked, unknown, any-stale, recording, last-serial, carried, step}
+use Rattle.tape.specs.Calls.{Move, start, stop, set-mark, reset-mark, rewind-to-mark, rewind-to-init, Call, move, operate, Edge, edge, edges, issued, written, asked, unknown, any-stale, would-record, last-serial, carried, step}
 use Rattle.tape.specs.Kept.{after}
 use Rattle.tape.proofs.Tests.{by-test, every, Fit, fit, state-fit}
 use Rattle.tape.specs.declared.errors.Refusal.{Refusal}
@@ -29,8 +29,8 @@ pub record Passed {N : Numbers} (c : Call N) (M : Machine N) : Type 0 where
   pub shape : fits (asked c .arrays) M ≡ true
   pub known : unknown (asked c .operation) ≡ false
   pub all-live : any-stale M (asked c .handles) ≡ false
-  pub room : recording (asked c .operation) M && eqb (M .state .length) (capacity (M .lent)) ≡ false
-  pub serial : recording (asked c .operation) M && eqb (M .state .next) last-serial ≡ false
+  pub room : would-record (asked c .operation) M && eqb (M .state .length) (capacity (M .lent)) ≡ false
+  pub serial : would-record (asked c .operation) M && eqb (M .state .next) last-serial ≡ false
 
 -- a step is a refusal, or what the call does with no test hit
 pub by-refusal : {N : Numbers} (P : Answer N × Machine N → Type 0) (c : Call N) (M : Machine N) → ((r : Refusal) → P (refused r, M)) → (Passed c M → P (carried c M)) → P (step c M)

@@ -4,7 +4,7 @@ use Prim.Native.Nat.{ℕ, _+_}
 use mathlib.Core.Bool.{Bool, true, false, not, _&&_, _||_, cond}
 use mathlib.Core.List.{List, [], _∷_, _++_, map}
 use mathlib.Core.Option.{Option, none, some}
-use lib.Dec.{leb, eqb}
+use lib.Dec.{eqb}
 use lib.ListN.{length, set}
 use lib.Seq.{sets}
 use Rattle.tape.specs.Numbers.{Numbers}
@@ -15,8 +15,6 @@ use Rattle.tape.specs.Answers.{Answer, refused, done, detached, recorded
 use Rattle.tape.specs.declared.errors.Refusal.{Refusal}
 use Rattle.tape.specs.declared.errors.Refusal.the-variants.{Misshapen, UnknownOperation, NotLive, Full, SerialsSpent}
 use Rattle.tape.specs.declared.node.Handle.{Handle}
-use Rattle.tape.specs.declared.state.Alloc.{Alloc}
-use Rattle.tape.specs.declared.state.Alloc.the-variants as alloc
 use Rattle.tape.specs.declared.state.Tape.{Tape}
 
 pub data Move : Type 0 where
@@ -72,6 +70,7 @@ with-node {N} h A v es =
     (sets (A .child) (slot (h .index)) (map (λ e. e .child) es))
     (sets (A .partial) (slot (h .index)) (map (λ e. e .weight) es))
 
+-- the machine after that
 abbrev pub written : {N : Numbers} → Machine N → N .Number → List (Edge N) → Machine N
 written M v es = machine (grown (M .state)) (with-node (issued (M .state)) (M .lent) v es)
 
@@ -99,9 +98,9 @@ any-stale M [] = false
 any-stale M (h ∷ hs) = not (live M h) || any-stale M hs
 
 -- does it record, the tape being active
-abbrev pub recording : {N : Numbers} → Option ℕ → Machine N → Bool
-recording none M = false
-recording (some op) M = M .state .active
+abbrev pub would-record : {N : Numbers} → Option ℕ → Machine N → Bool
+would-record none M = false
+would-record (some op) M = M .state .active
 
 -- the last serial is kept back, so that the next one never passes 64 bits
 abbrev pub last-serial : ℕ
@@ -112,8 +111,8 @@ refusals q M =
     (Misshapen, not (fits (q .arrays) M))
     ∷ (UnknownOperation, unknown (q .operation))
     ∷ (NotLive, any-stale M (q .handles))
-    ∷ (Full, recording (q .operation) M && eqb (M .state .length) (capacity (M .lent)))
-    ∷ (SerialsSpent, recording (q .operation) M && eqb (M .state .next) last-serial)
+    ∷ (Full, would-record (q .operation) M && eqb (M .state .length) (capacity (M .lent)))
+    ∷ (SerialsSpent, would-record (q .operation) M && eqb (M .state .next) last-serial)
     ∷ []
 
 -- the first test that hits; otherwise what the call does
@@ -139,13 +138,3 @@ run (c ∷ cs) M =
     let one = step c M in
     let rest = run cs (one .1) in
     (one .0 ∷ rest .0, rest .1)
-
--- ---- where the next node goes
-
--- what the code's `alloc` answers on a tape of capacity n: tests 5 and 6, in their order
-abbrev pub allocated : ℕ → Tape → Alloc
-allocated n t =
-    cond
-    (t .active)
-    (cond (leb n (t .length)) alloc.Full (cond (eqb (t .next) last-serial) alloc.SerialsSpent (alloc.Node (issued t) (grown t))))
-    alloc.Inactive

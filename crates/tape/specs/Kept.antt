@@ -25,16 +25,19 @@ after cs M = run cs M .1
 -- ---- stale handles
 
 -- each serial below the length is below the next serial
-abbrev pub Issued : {N : Numbers} → Machine N → Type 0
-Issued M = (i : ℕ) → i < M .state .length → getD (M .lent .serial) i 0 < M .state .next
+abbrev pub SerialsIssued : {N : Numbers} → Machine N → Type 0
+SerialsIssued M = (i : ℕ) → i < M .state .length → getD (M .lent .serial) i 0 < M .state .next
 
--- a handle that stopped being live is never live again, whatever calls follow
+-- a handle that stopped being live is never live again, whatever calls follow: from a new tape, and from any machine of which `SerialsIssued` holds, as it does after any calls from a new tape.
+-- Proved in proofs/Stale.antt
 pub record StaleHandles : Type 1 where
-  pub from-new : {N : Numbers} (A : Arrays N) (cs : List (Call N)) → Issued (after cs (fresh A))
-  pub never-again : {N : Numbers} (M : Machine N) (h : Handle) (between later : List (Call N)) → Issued M
+  pub never-again-from-new : {N : Numbers} (A : Arrays N) (h : Handle) (before between later : List (Call N)) → let M = after before (fresh A) in
+      live M h ≡ true → live (after between M) h ≡ false → live (after later (after between M)) h ≡ false
+  pub from-new : {N : Numbers} (A : Arrays N) (cs : List (Call N)) → SerialsIssued (after cs (fresh A))
+  pub never-again : {N : Numbers} (M : Machine N) (h : Handle) (between later : List (Call N)) → SerialsIssued M
       → live M h ≡ true → live (after between M) h ≡ false → live (after later (after between M)) h ≡ false
 
--- on a machine of no such history it could be: `Issued` is needed. Length 1, serial 7 at 0 and 7 next
+-- on a machine of no such history it could be: `SerialsIssued` is needed. Length 1, serial 7 at 0 and 7 next. Proved in proofs/Revived.antt
 pub record Revived : Type 0 where
   pub before : Machine floats
   pub handle : Handle
@@ -64,6 +67,7 @@ abbrev pub NoneNought : List ℕ → Type 0
 NoneNought [] = Unit {0}
 NoneNought (s ∷ ss) = (s ≡ 0 → ⊥) × NoneNought ss
 
+-- Proved in proofs/Serials.antt
 pub record Serials : Type 1 where
   pub never-fall : {N : Numbers} (cs : List (Call N)) (M : Machine N) → M .state .next ≤ after cs M .state .next
   pub never-nought : {N : Numbers} (cs : List (Call N)) (M : Machine N) → NoneNought (serials (run cs M .0))
@@ -86,6 +90,7 @@ pub record SameBelow {N : Numbers} (n : ℕ) (A B : Arrays N) : Type 0 where
   pub child : take (slot n) (B .child) ≡ take (slot n) (A .child)
   pub partial : take (slot n) (B .partial) ≡ take (slot n) (A .partial)
 
+-- Proved in proofs/Recording.antt
 pub record Recording : Type 1 where
   -- the handle that is answered is live, and the value read through it is the value answered
   pub answered : {N : Numbers} (c : Call N) (M : Machine N) (h : Handle) → step c M .0 .handle ≡ some h

@@ -5,7 +5,6 @@ use mathlib.Core.List.{List, [], _∷_, _++_}
 use lib.Dec.{leb, eqb}
 use lib.ListN.{length}
 use Rattle.tape.specs.Numbers.{Numbers}
-use Rattle.tape.specs.declared.node.Handle.{Handle}
 use Rattle.tape.specs.declared.state.Tape.{Tape}
 
 -- value, adjoint, serial and edge count have an entry for each node; edge child and edge partial have two

@@ -15,7 +15,7 @@ pub record Numbers : Type 1 where
   pub at-most : Number → Number → Bool
   -- what is done to a partial before it is stored
   pub stored : Number → Number
-  -- what a read past the end of an array would give; no call makes one
+  -- what stands past the end of an array and of the operations table; no answer depends on it
   pub blank : Number
 
 -- IEEE 754 binary64. `nought` is +0.0, `one` is 1.0, and a partial is stored as it is

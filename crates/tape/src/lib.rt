@@ -1,6 +1,6 @@
 // The tape: its small state, handles to its nodes, refusals, and what every call tests of the arrays it is lent.
 //
-// specs/ hold document 01's machine, of which each public call, here and in the crates above, carries out one step.
+// specs/ hold document 01's machine. A call on the tape, here and in the crates above, is one step of it; `Handle::lookup` and `Tape::admits` are what such calls are made of.
 pub mod errors;
 pub mod node;
 pub mod state;
@@ -9,6 +9,5 @@ pub use errors::Refusal;
 pub use node::Handle;
 pub use node::Lookup;
 pub use node::Operand;
-pub use state::Alloc;
 pub use state::Moved;
 pub use state::Tape;

@@ -1,11 +1,10 @@
 // The tape's small state. Start, stop, marks and rewinds take it by value and hand it back, as it was where they refuse. None of them touches an array.
 use crate::errors::Refusal;
-use crate::node::Handle;
 ghost use mathlib.Core.Path.{_≡_};
 ghost use mathlib.Core.Bool.{true, cond};
 ghost use Rattle.tape.specs.Numbers.{floats};
 ghost use Rattle.tape.specs.Machine.{Arrays, arrays, machine, new-tape, all, state-fits, fits};
-ghost use Rattle.tape.specs.Calls.{step, allocated, move, start, stop, set-mark, reset-mark, rewind-to-mark, rewind-to-init};
+ghost use Rattle.tape.specs.Calls.{step, move, start, stop, set-mark, reset-mark, rewind-to-mark, rewind-to-init};
 ghost use Rattle.tape.specs.Answers.{outcome};
 
 pub struct Tape {
@@ -19,14 +18,6 @@ pub struct Tape {
 pub enum Moved {
     Done(Tape),
     Refused(Refusal, Tape),
-}
-
-// Where the next node goes.
-pub enum Alloc {
-    Inactive,
-    Full,
-    SerialsSpent,
-    Node(Handle, Tape),
 }
 
 impl Tape {
@@ -46,72 +37,58 @@ impl Tape {
     pub fn start_recording(self) -> Moved
         ensures { λ x. ⌜ ((A : Arrays floats) → outcome x A ≡ step (move start) (machine self A)) ⌝ }
     {
-        self.moved(Tape {
-            length: 0,
-            mark: 0,
-            active: true,
-            next: self.next, // Not 1: an old handle would come to life.
-        })
+        let mut after = self;
+        after.length = 0;
+        after.mark = 0;
+        after.active = true;
+        // The next serial stays: were serials to begin anew, an old handle would come to life.
+        self.moved_to(after)
     }
 
     // Records no more; the nodes stay.
     pub fn stop_recording(self) -> Moved
         ensures { λ x. ⌜ ((A : Arrays floats) → outcome x A ≡ step (move stop) (machine self A)) ⌝ }
     {
-        self.moved(Tape {
-            length: self.length,
-            mark: self.mark,
-            active: false,
-            next: self.next,
-        })
+        let mut after = self;
+        after.active = false;
+        self.moved_to(after)
     }
 
     // Sets the mark behind the last node.
     pub fn set_mark(self) -> Moved
         ensures { λ x. ⌜ ((A : Arrays floats) → outcome x A ≡ step (move set-mark) (machine self A)) ⌝ }
     {
-        self.moved(Tape {
-            length: self.length,
-            mark: self.length,
-            active: self.active,
-            next: self.next,
-        })
+        let mut after = self;
+        after.mark = self.length;
+        self.moved_to(after)
     }
 
     // Sets the mark before the first node.
     pub fn reset_mark(self) -> Moved
         ensures { λ x. ⌜ ((A : Arrays floats) → outcome x A ≡ step (move reset-mark) (machine self A)) ⌝ }
     {
-        self.moved(Tape {
-            length: self.length,
-            mark: 0,
-            active: self.active,
-            next: self.next,
-        })
+        let mut after = self;
+        after.mark = 0;
+        self.moved_to(after)
     }
 
     // Drops the nodes past the mark.
     pub fn rewind_to_mark(self) -> Moved
         ensures { λ x. ⌜ ((A : Arrays floats) → outcome x A ≡ step (move rewind-to-mark) (machine self A)) ⌝ }
     {
-        self.moved(Tape {
-            length: self.mark,
-            mark: self.mark,
-            active: self.active,
-            next: self.next,
-        })
+        let mut after = self;
+        after.length = self.mark;
+        self.moved_to(after)
     }
 
     // Drops every node and the mark.
     pub fn rewind_to_init(self) -> Moved
         ensures { λ x. ⌜ ((A : Arrays floats) → outcome x A ≡ step (move rewind-to-init) (machine self A)) ⌝ }
     {
-        self.moved(Tape {
-            length: 0,
-            mark: 0,
-            active: self.active,
-            next: self.next,
-        })
+        let mut after = self;
+        after.length = 0;
+        after.mark = 0;
+        self.moved_to(after)
     }
 
     // Whether the lent arrays and the state fit together: what every call that is lent the arrays tests first.
@@ -149,48 +126,21 @@ impl Tape {
             & (count.len() == capacity)
             & (child.len() == slots)
             & (partial.len() == slots)
-            & self.sound(capacity)
+            & self.state_fits(capacity)
     }
 
-    // Where the next node goes on a tape of this capacity, and the state once it is there.
-    pub fn alloc(self, capacity: usize) -> Alloc
-        ensures { λ x. ⌜ x ≡ allocated capacity self ⌝ }
-    {
-        if !self.active {
-            return Alloc::Inactive;
-        }
-        if capacity <= self.length {
-            return Alloc::Full;
-        }
-        if self.next == 18_446_744_073_709_551_615 {
-            return Alloc::SerialsSpent;
-        }
-        Alloc::Node(
-            Handle {
-                index: self.length,
-                serial: self.next,
-            },
-            Tape {
-                length: self.length + 1,
-                mark: self.mark,
-                active: self.active,
-                next: self.next + 1,
-            },
-        )
-    }
-
-    // What a call that is lent no array tests first.
-    fn sound(self, most: usize) -> bool
+    // The state's own part of what has to fit, at most so many nodes long.
+    fn state_fits(self, most: usize) -> bool
         ensures { λ x. ⌜ x ≡ all (state-fits most self) ⌝ }
     {
         (self.length <= most) & (self.mark <= self.length) & (self.next != 0)
     }
 
-    // The state after, unless this one is unsound.
-    fn moved(self, after: Tape) -> Moved
+    // The state after, unless this one does not fit.
+    fn moved_to(self, after: Tape) -> Moved
         ensures { λ x. ⌜ x ≡ cond (all (state-fits 65535 self)) (Moved.Done after) (Moved.Refused Refusal.Misshapen self) ⌝ }
     {
-        if self.sound(65_535) {
+        if self.state_fits(65_535) {
             return Moved::Done(after);
         }
         Moved::Refused(Refusal::Misshapen, self)

@@ -12,7 +12,7 @@ returns : tie.Need-returns
 returns c = simp (lt-leb (length (now (c .before .before .before .before .before .before .before .args .value))) 65535 (omega arith))
 
 returns-2 : tie.Need-returns-2
-returns-2 c = rw (c .sound .ensures, le-leb (length (now (c .before .before .before .before .before .before .before .before .args .value))) 65535 (omega arith)) (simp (and-assoc, and-true))
+returns-2 c = rw (c .state-fits .ensures, le-leb (length (now (c .before .before .before .before .before .before .before .before .args .value))) 65535 (omega arith)) (simp (and-assoc, and-true))
 
 pub admits-spec : {M : Type 1} → statement M
 admits-spec = tie.close (tie.spec returns (λ c. search needs) (λ _ _. tt) returns-2)

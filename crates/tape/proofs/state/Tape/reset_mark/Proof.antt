@@ -4,4 +4,4 @@ use Rattle.tape.proofs.state.Tape.reset_mark.Statement.{statement}
 use Rattle.tape.proofs.state.Tape.reset_mark.Tie as tie
 
 pub reset-mark-spec : {M : Type 1} → statement M
-reset-mark-spec = tie.close (tie.spec (λ _ _. tt) (λ c. move-told _ _ _ (c .moved .ensures)))
+reset-mark-spec = tie.close (tie.spec (λ _ _. tt) (λ c. move-told _ _ _ (c .moved-to .ensures)))

@@ -4,4 +4,4 @@ use Rattle.tape.proofs.state.Tape.rewind_to_mark.Statement.{statement}
 use Rattle.tape.proofs.state.Tape.rewind_to_mark.Tie as tie
 
 pub rewind-to-mark-spec : {M : Type 1} → statement M
-rewind-to-mark-spec = tie.close (tie.spec (λ _ _. tt) (λ c. move-told _ _ _ (c .moved .ensures)))
+rewind-to-mark-spec = tie.close (tie.spec (λ _ _. tt) (λ c. move-told _ _ _ (c .moved-to .ensures)))

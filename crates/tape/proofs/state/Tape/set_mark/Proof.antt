@@ -4,4 +4,4 @@ use Rattle.tape.proofs.state.Tape.set_mark.Statement.{statement}
 use Rattle.tape.proofs.state.Tape.set_mark.Tie as tie
 
 pub set-mark-spec : {M : Type 1} → statement M
-set-mark-spec = tie.close (tie.spec (λ _ _. tt) (λ c. move-told _ _ _ (c .moved .ensures)))
+set-mark-spec = tie.close (tie.spec (λ _ _. tt) (λ c. move-told _ _ _ (c .moved-to .ensures)))

@@ -4,4 +4,4 @@ use Rattle.tape.proofs.state.Tape.stop_recording.Statement.{statement}
 use Rattle.tape.proofs.state.Tape.stop_recording.Tie as tie
 
 pub stop-recording-spec : {M : Type 1} → statement M
-stop-recording-spec = tie.close (tie.spec (λ _ _. tt) (λ c. move-told _ _ _ (c .moved .ensures)))
+stop-recording-spec = tie.close (tie.spec (λ _ _. tt) (λ c. move-told _ _ _ (c .moved-to .ensures)))

@@ -1,10 +1,10 @@
 -- Arm by arm; from 10 on the operation is not known.
 use Rattle.expr.proofs.Table.{past-ten, past-uses}
-use Rattle.expr.proofs.operations.used.Statement.{statement}
-use Rattle.expr.proofs.operations.used.Tie as tie
+use Rattle.expr.proofs.operations.operands_of.Statement.{statement}
+use Rattle.expr.proofs.operations.operands_of.Tie as tie
 
-pub used-spec : {M : Type 1} → statement M
-used-spec =
+pub operands-of-spec : {M : Type 1} → statement M
+operands-of-spec =
     tie.close
     (tie.spec
     (λ c. rw (c .match .keys1))
