@@ -52,13 +52,13 @@ pub const COMPARE_F64: usize = 22;
 // The kinds from here on are the operations of the tape, in the order of their numbers.
 pub const OPERATIONS: usize = 23;
 
-pub const OP_LEAF: usize = 23;
+pub const OP_LEAF: usize = OPERATIONS;
 
-pub const OP_MAX: usize = 28;
+const OP_MAX: usize = 28;
 
-pub const OP_MIN: usize = 29;
+const OP_MIN: usize = 29;
 
-pub const OP_NEG: usize = 30;
+const OP_NEG: usize = 30;
 
 // How many there are. As a kind, none of them.
 pub const KINDS: usize = 31;
@@ -250,4 +250,9 @@ pub(crate) fn operation_operands(kind: usize) -> usize
         OP_LEAF | OP_NEG => 1,
         _ => 2,
     }
+}
+
+// Whether an operation answers one of its operands, max or min: at some of these its value is left out of the comparison.
+pub(crate) fn chooses(kind: usize) -> bool {
+    (kind == OP_MAX) | (kind == OP_MIN)
 }

@@ -1,7 +1,5 @@
 // What is written to standard output.
 use crate::kinds;
-use crate::kinds::OP_MAX;
-use crate::kinds::OP_MIN;
 use crate::kinds::Subject;
 use crate::nodes::Edge;
 use crate::nodes::Node;
@@ -124,7 +122,7 @@ fn of_kind(list: &[u8], kind: usize, cases: u64, differ: u64, apart: u64)
     kinds::write_name(kind);
     count(b" cases=", cases);
     count(b" differ=", differ);
-    if (kind == OP_MAX) | (kind == OP_MIN) {
+    if kinds::chooses(kind) {
         count(b" apart=", apart);
     }
     text(b"\n");

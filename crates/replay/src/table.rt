@@ -2,8 +2,6 @@
 use crate::kinds;
 use crate::kinds::KINDS;
 use crate::kinds::OP_LEAF;
-use crate::kinds::OP_MAX;
-use crate::kinds::OP_MIN;
 use crate::kinds::OPERATIONS;
 use crate::nodes;
 use crate::nodes::Edge;
@@ -152,10 +150,9 @@ fn child(there: bool, index: u16) -> u16 {
 
 // Where the Rust's value departs from the rule, or may: max and min of a NaN on the right alone, and of two zeros of unlike sign (docs/DIFFERENCES.md).
 fn is_apart(kind: usize, left: u64, right: u64) -> bool {
-    let chooses = (kind == OP_MAX) | (kind == OP_MIN);
     let right_alone = (right == NAN) & (left != NAN);
     let zeros = is_zero(left) & is_zero(right) & (left != right);
-    chooses & (right_alone | zeros)
+    kinds::chooses(kind) & (right_alone | zeros)
 }
 
 fn is_zero(bits: u64) -> bool {
