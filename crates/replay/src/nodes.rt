@@ -83,6 +83,7 @@ pub(crate) fn carry_out(op: u8, left: Given, right: Given) -> Outcome {
     }
 }
 
+// Starts the tape, places the left operand and then the right one, and records.
 fn record_on(
     value: &mut [f64],
     adjoint: &mut [f64],
@@ -94,7 +95,7 @@ fn record_on(
     left: Given,
     right: Given,
 ) -> Recorded {
-    let l = place(
+    let placed = place(
         started(),
         &mut *value,
         &mut *adjoint,
@@ -104,8 +105,36 @@ fn record_on(
         &mut *partial,
         left,
     );
-    let r = place(
-        l.tape,
+    let operand = placed.operand;
+    record_beside(
+        placed.tape,
+        value,
+        adjoint,
+        serial,
+        count,
+        child,
+        partial,
+        op,
+        operand,
+        right,
+    )
+}
+
+// Records with the left operand already in its place.
+fn record_beside(
+    tape: Tape,
+    value: &mut [f64],
+    adjoint: &mut [f64],
+    serial: &mut [u64],
+    count: &mut [u8],
+    child: &mut [u16],
+    partial: &mut [f64],
+    op: u8,
+    left: Operand,
+    right: Given,
+) -> Recorded {
+    let placed = place(
+        tape,
         &mut *value,
         &mut *adjoint,
         &mut *serial,
@@ -114,10 +143,9 @@ fn record_on(
         &mut *partial,
         right,
     );
-    let x = l.operand;
-    let y = r.operand;
+    let operand = placed.operand;
     record(
-        r.tape,
+        placed.tape,
         value,
         adjoint,
         serial,
@@ -125,8 +153,8 @@ fn record_on(
         child,
         partial,
         op,
-        x,
-        y,
+        left,
+        operand,
         NOTHING,
     )
 }
@@ -138,6 +166,7 @@ fn started() -> Tape {
     }
 }
 
+// Puts the operand on the tape as a leaf, if the case has it there.
 fn place(
     tape: Tape,
     value: &mut [f64],
