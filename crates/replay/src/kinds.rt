@@ -1,4 +1,4 @@
-// The kinds of cases, numbered in the order of docs/REPLAY.md's table: their names and how many words each takes.
+// The kinds of cases, numbered in the order of docs/REPLAY.md's tables: their names and how many words each takes.
 use crate::words::byte_at;
 use libc::STDOUT_FILENO;
 ghost use Prim.Native.Nat.{_≤_, _<_};
@@ -49,8 +49,34 @@ pub const COMPARE: usize = 21;
 
 pub const COMPARE_F64: usize = 22;
 
+// The kinds from here on are the operations of the tape, in the order of their numbers.
+pub const OPERATIONS: usize = 23;
+
+pub const OP_LEAF: usize = OPERATIONS;
+
+const OP_MAX: usize = 28;
+
+const OP_MIN: usize = 29;
+
+const OP_NEG: usize = 30;
+
 // How many there are. As a kind, none of them.
-pub const KINDS: usize = 23;
+pub const KINDS: usize = 31;
+
+// What a list has cases of.
+pub enum Subject {
+    Fwd1,
+    Fwd2,
+    Fwd3,
+    Fwd4,
+    Table,
+}
+
+// The kinds of a subject: those from `first` on that are below `end`.
+pub struct Span {
+    pub first: usize,
+    pub end: usize,
+}
 
 // A name is ended by a space, in the table as in a line.
 const WIDTH: usize = 12;
@@ -79,13 +105,46 @@ const NAMES: [[u8; WIDTH]; KINDS] = [
     *b"div_into    ",
     *b"compare     ",
     *b"compare_f64 ",
+    *b"leaf        ",
+    *b"add         ",
+    *b"sub         ",
+    *b"mul         ",
+    *b"div         ",
+    *b"max         ",
+    *b"min         ",
+    *b"neg         ",
 ];
 
-// The kind whose name starts the line, or KINDS.
-pub(crate) fn kind_of(line: &[u8]) -> usize
-    ensures { λ r. ⌜ r ≤ 23 ⌝ }
+pub(crate) fn kinds_of(subject: Subject) -> Span
+    ensures { λ r. ⌜ (r .first ≤ r .end) × (r .end ≤ 31) ⌝ }
 {
-    for kind in 0..KINDS {
+    match subject {
+        Subject::Fwd1 => forward_kinds(),
+        Subject::Fwd2 => forward_kinds(),
+        Subject::Fwd3 => forward_kinds(),
+        Subject::Fwd4 => forward_kinds(),
+        Subject::Table => Span {
+            first: OPERATIONS,
+            end: KINDS,
+        },
+    }
+}
+
+fn forward_kinds() -> Span
+    ensures { λ r. ⌜ (r .first ≤ r .end) × (r .end ≤ 31) ⌝ }
+{
+    Span {
+        first: 0,
+        end: OPERATIONS,
+    }
+}
+
+// The kind, from `first` on and below `end`, whose name starts the line, or KINDS.
+pub(crate) fn kind_of(line: &[u8], first: usize, end: usize) -> usize
+    requires { ⌜ (first ≤ end) × (end ≤ 31) ⌝ }
+    ensures { λ r. ⌜ (first ≤ r) × (r ≤ 31) ⌝ }
+{
+    for kind in first..end {
         if is_named(line, kind) {
             return kind;
         }
@@ -94,7 +153,7 @@ pub(crate) fn kind_of(line: &[u8]) -> usize
 }
 
 fn is_named(line: &[u8], kind: usize) -> bool
-    requires { ⌜ kind < 23 ⌝ }
+    requires { ⌜ kind < 31 ⌝ }
 {
     for at in 0..WIDTH {
         let byte = NAMES[kind][at];
@@ -109,7 +168,7 @@ fn is_named(line: &[u8], kind: usize) -> bool
 }
 
 pub(crate) fn name_length(kind: usize) -> usize
-    requires { ⌜ kind < 23 ⌝ }
+    requires { ⌜ kind < 31 ⌝ }
     ensures { λ r. ⌜ r ≤ 12 ⌝ }
 {
     for at in 0..WIDTH {
@@ -121,7 +180,7 @@ pub(crate) fn name_length(kind: usize) -> usize
 }
 
 pub(crate) fn write_name(kind: usize)
-    requires { ⌜ kind < 23 ⌝ }
+    requires { ⌜ kind < 31 ⌝ }
 {
     let name = NAMES[kind];
     write_front(&name, name_length(kind));
@@ -181,4 +240,19 @@ pub(crate) fn plain_at(kind: usize, size: usize) -> usize
         CONSTANT | VAR => 0,
         _ => size,
     }
+}
+
+// How many operands an operation has.
+pub(crate) fn operation_operands(kind: usize) -> usize
+    ensures { λ r. ⌜ (1 ≤ r) × (r ≤ 2) ⌝ }
+{
+    match kind {
+        OP_LEAF | OP_NEG => 1,
+        _ => 2,
+    }
+}
+
+// Whether an operation answers one of its operands, max or min: at some of these its value is left out of the comparison.
+pub(crate) fn chooses(kind: usize) -> bool {
+    (kind == OP_MAX) | (kind == OP_MIN)
 }

@@ -1,5 +1,6 @@
 // A list of cases, read from its file piece by piece.
 use crate::cases;
+use crate::kinds::Subject;
 use crate::report;
 use crate::tally::Tally;
 ghost use Prim.Native.Nat.{_≤_};
@@ -13,24 +14,20 @@ struct Progress {
     pending: usize,
 }
 
-// Replays the file, which the list is named after, at an order.
-pub(crate) fn replay(list: &[u8], order: usize, file: i32)
-    requires { ⌜ order ≤ 4 ⌝ }
-{
+// Replays the file, which the list is named after.
+pub(crate) fn replay(list: &[u8], subject: Subject, file: i32) {
     if file < 0 {
         report::unreadable(list);
         return;
     }
     let mut line = [0u8; LONGEST];
-    let tally = replay_all(list, order, file, &mut line);
+    let tally = replay_all(list, subject, file, &mut line);
     libc::close(file);
-    report::summary(list, tally);
+    report::summary(list, subject, tally);
 }
 
 // A proved loop has to end, and nothing says that a file does. So the loop counts its turns down, from a number that no run uses up.
-fn replay_all(list: &[u8], order: usize, file: i32, line: &mut [u8]) -> Tally
-    requires { ⌜ order ≤ 4 ⌝ }
-{
+fn replay_all(list: &[u8], subject: Subject, file: i32, line: &mut [u8]) -> Tally {
     let mut space = io::large_buffer();
     let piece: &mut [u8] = &mut space;
     let mut progress = Progress {
@@ -48,7 +45,7 @@ fn replay_all(list: &[u8], order: usize, file: i32, line: &mut [u8]) -> Tally
             break;
         }
         let count = io::count(got, piece);
-        progress = replay_piece(list, order, &piece[..count], line, progress);
+        progress = replay_piece(list, subject, &piece[..count], line, progress);
         turns -= 1;
     }
     finished(list, progress)
@@ -57,19 +54,19 @@ fn replay_all(list: &[u8], order: usize, file: i32, line: &mut [u8]) -> Tally
 // Replays the lines that end in the piece, and keeps the start of the one that does not.
 fn replay_piece(
     list: &[u8],
-    order: usize,
+    subject: Subject,
     piece: &[u8],
     line: &mut [u8],
     before: Progress,
 ) -> Progress
-    requires { do ⌜ (order ≤ 4) × (before .pending ≤ (← ⟦line.len()⟧)) ⌝ }
+    requires { do ⌜ before .pending ≤ (← ⟦line.len()⟧) ⌝ }
     ensures { λ r. do ⌜ r .pending ≤ (← ⟦line.len()⟧ .entry) ⌝ }
 {
     let mut tally = before.tally;
     let mut pending = before.pending;
     for i in 0..piece.len() {
         if piece[i] == b'\n' {
-            tally = cases::replay(list, order, &line[..pending], tally);
+            tally = cases::replay(list, subject, &line[..pending], tally);
             pending = 0;
         } else {
             pending = put(line, pending, piece[i]);
@@ -95,7 +92,5 @@ fn finished(list: &[u8], progress: Progress) -> Tally {
     if progress.pending == 0 {
         return tally;
     }
-    let last = tally.next_line();
-    report::not_a_case(list, last.lines);
-    last.not_a_case()
+    report::malformed(list, tally.next_line())
 }

@@ -1,22 +1,33 @@
-// Replays recorded cases of the Rust's forward numbers with the port's, and compares every word of their answers (docs/REPLAY.md).
+// Replays recorded answers of the Rust with the port's own calls, and compares every word of them (docs/REPLAY.md).
 mod cases;
 mod comparison;
 mod kinds;
 mod lists;
+mod nodes;
 mod order1;
 mod order2;
 mod order3;
 mod order4;
+mod orders;
 mod report;
+mod table;
 mod tally;
 mod words;
 
+use kinds::Subject;
+
 fn main() {
-    lists::replay(b"fwd1", 1, os::open_read(b"fwd1.txt"));
-    lists::replay(b"fwd2", 2, os::open_read(b"fwd2.txt"));
-    lists::replay(b"fwd3", 3, os::open_read(b"fwd3.txt"));
-    lists::replay(b"fwd4", 4, os::open_read(b"fwd4.txt"));
-    // Without it, a comparison that sees nothing would pass for one that finds nothing.
+    lists::replay(b"fwd1", Subject::Fwd1, os::open_read(b"fwd1.txt"));
+    lists::replay(b"fwd2", Subject::Fwd2, os::open_read(b"fwd2.txt"));
+    lists::replay(b"fwd3", Subject::Fwd3, os::open_read(b"fwd3.txt"));
+    lists::replay(b"fwd4", Subject::Fwd4, os::open_read(b"fwd4.txt"));
+    lists::replay(b"table", Subject::Table, os::open_read(b"table.txt"));
+    // Without them, a comparison that sees nothing would pass for one that finds nothing.
     report::text(b"control: each of these must differ\n");
-    lists::replay(b"control", 1, os::open_read(b"control.txt"));
+    lists::replay(b"control", Subject::Fwd1, os::open_read(b"control.txt"));
+    lists::replay(
+        b"table_control",
+        Subject::Table,
+        os::open_read(b"table_control.txt"),
+    );
 }

@@ -7,6 +7,7 @@ pub struct Tally {
     pub malformed: u64,
     pub cases: [u64; KINDS],
     pub differ: [u64; KINDS],
+    pub apart: [u64; KINDS],
 }
 
 impl Tally {
@@ -16,6 +17,7 @@ impl Tally {
             malformed: 0,
             cases: [0; KINDS],
             differ: [0; KINDS],
+            apart: [0; KINDS],
         }
     }
 
@@ -30,7 +32,7 @@ impl Tally {
     }
 
     pub(crate) fn agrees(mut self, kind: usize) -> Tally
-        requires { ⌜ kind < 23 ⌝ }
+        requires { ⌜ kind < 31 ⌝ }
     {
         let cases = self.cases[kind];
         self.cases[kind] = one_more(cases);
@@ -38,12 +40,24 @@ impl Tally {
     }
 
     pub(crate) fn differs(mut self, kind: usize) -> Tally
-        requires { ⌜ kind < 23 ⌝ }
+        requires { ⌜ kind < 31 ⌝ }
     {
         let cases = self.cases[kind];
         let differ = self.differ[kind];
         self.cases[kind] = one_more(cases);
         self.differ[kind] = one_more(differ);
+        self
+    }
+
+    // A case whose value is left out of the comparison is counted as such, besides what it comes to.
+    pub(crate) fn set_apart(mut self, kind: usize, apart: bool) -> Tally
+        requires { ⌜ kind < 31 ⌝ }
+    {
+        if !apart {
+            return self;
+        }
+        let count = self.apart[kind];
+        self.apart[kind] = one_more(count);
         self
     }
 }

@@ -7,10 +7,10 @@ use Rattle.replay.proofs.lists.replay_all.Statement.{statement}
 use Rattle.replay.proofs.lists.replay_all.Tie as tie
 
 abbrev Inv-loop : tie.InvT-loop
-Inv-loop list order file line₀ piece₀ progress₀ turns₀ line piece progress turns = (length line ≡ length line₀) × (progress .pending ≤ length line)
+Inv-loop list subject file line₀ piece₀ progress₀ turns₀ line piece progress turns = (length line ≡ length line₀) × (progress .pending ≤ length line)
 
 abbrev μ-loop : tie.MeasureT-loop
-μ-loop list order file line₀ piece₀ progress₀ turns₀ line piece progress turns = turns
+μ-loop list subject file line₀ piece₀ progress₀ turns₀ line piece progress turns = turns
 
 pub replay-all-spec : {M : Type 1} → statement M
 replay-all-spec =

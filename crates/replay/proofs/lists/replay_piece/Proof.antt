@@ -9,10 +9,10 @@ use Rattle.replay.proofs.lists.replay_piece.Statement.{statement}
 use Rattle.replay.proofs.lists.replay_piece.Tie as tie
 
 abbrev Inv-loop : tie.InvT-loop
-Inv-loop list order piece line₀ tally₀ pending₀ i₀ i-end line tally pending i = (i ≤ length piece) × (i-end ≡ length piece) × (length line ≡ length line₀) × (pending ≤ length line)
+Inv-loop list subject piece line₀ tally₀ pending₀ i₀ i-end line tally pending i = (i ≤ length piece) × (i-end ≡ length piece) × (length line ≡ length line₀) × (pending ≤ length line)
 
 abbrev μ-loop : tie.MeasureT-loop
-μ-loop list order piece line₀ tally₀ pending₀ i₀ i-end line tally pending i = length piece - i
+μ-loop list subject piece line₀ tally₀ pending₀ i₀ i-end line tally pending i = length piece - i
 
 pub replay-piece-spec : {M : Type 1} → statement M
 replay-piece-spec =

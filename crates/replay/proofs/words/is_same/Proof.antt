@@ -1,8 +1,8 @@
 -- `is_same` is safe and ends: the loop's index stays within the count.
 use Prim.Native.Nat.{_≤_, _-_}
 use borrow.Author.Needs.{needs}
-use Rattle.replay.proofs.cases.is_same.Statement.{statement}
-use Rattle.replay.proofs.cases.is_same.Tie as tie
+use Rattle.replay.proofs.words.is_same.Statement.{statement}
+use Rattle.replay.proofs.words.is_same.Tie as tie
 
 abbrev Inv-loop : tie.InvT-loop
 Inv-loop case from got count i₀ i = i ≤ count

@@ -1,8 +1,8 @@
 -- `read_words` is safe and ends: the loop's index stays within the count.
 use Prim.Native.Nat.{_≤_, _-_}
 use borrow.Author.Needs.{needs}
-use Rattle.replay.proofs.cases.read_words.Statement.{statement}
-use Rattle.replay.proofs.cases.read_words.Tie as tie
+use Rattle.replay.proofs.words.read_words.Statement.{statement}
+use Rattle.replay.proofs.words.read_words.Tie as tie
 
 abbrev Inv-loop : tie.InvT-loop
 Inv-loop line from count case₀ i₀ case i = i ≤ count

@@ -1,0 +1,237 @@
+//! Prints the cases of docs/REPLAY.md for the operations table: `table SEED COUNT`.
+
+use std::hint::black_box;
+use std::io::{self, BufWriter, Write};
+use std::ops::{Add, Div, Mul, Neg, Sub};
+use std::process::exit;
+
+use oracle::ad::constant::Const;
+use oracle::ad::dual::Dual;
+use oracle::ad::expr::{max, min};
+use oracle::ad::scalar::Scalar;
+use oracle::ad::tape::{Tape, TAPE};
+use oracle::random::Random;
+use oracle::words::{bits, SPECIAL};
+
+/// An operand: a value with a node, or one without, which stands for a plain number.
+type Operand = Dual<f64>;
+
+/// One form of an operation: a letter for each operand, and what the Rust records.
+struct Form {
+    letters: &'static str,
+    record: fn(Operand, Operand) -> Dual<f64>,
+}
+
+/// An operation in each of its forms.
+struct Kind {
+    name: &'static str,
+    forms: Vec<Form>,
+}
+
+fn plain(x: Operand) -> Const<f64> {
+    Const(x.value())
+}
+
+/// An operation of two operands, each a `Dual` or a `Const`.
+macro_rules! two {
+    ($name:literal, $operation:path) => {
+        Kind {
+            name: $name,
+            forms: vec![
+                Form {
+                    letters: "nn",
+                    record: |l, r| $operation(l, r).into(),
+                },
+                Form {
+                    letters: "np",
+                    record: |l, r| $operation(l, plain(r)).into(),
+                },
+                Form {
+                    letters: "pn",
+                    record: |l, r| $operation(plain(l), r).into(),
+                },
+                Form {
+                    letters: "pp",
+                    record: |l, r| $operation(plain(l), plain(r)).into(),
+                },
+            ],
+        }
+    };
+}
+
+/// Every operation, in the order of its number, by the Rust's own operators.
+fn kinds() -> Vec<Kind> {
+    vec![
+        Kind {
+            name: "leaf",
+            forms: vec![Form {
+                letters: "p",
+                record: |l, _| Dual::new(l.value()),
+            }],
+        },
+        two!("add", Add::add),
+        two!("sub", Sub::sub),
+        two!("mul", Mul::mul),
+        two!("div", Div::div),
+        two!("max", max),
+        two!("min", min),
+        Kind {
+            name: "neg",
+            forms: vec![
+                Form {
+                    letters: "n",
+                    record: |l, _| l.neg_val(),
+                },
+                Form {
+                    letters: "p",
+                    record: |l, _| Neg::neg(plain(l)).into(),
+                },
+            ],
+        },
+    ]
+}
+
+/// The operand of a letter; `n` puts it on the tape.
+fn operand(letter: u8, x: f64) -> Operand {
+    match letter {
+        b'n' => Dual::new(black_box(x)),
+        _ => Dual::constant(black_box(x)),
+    }
+}
+
+/// A node as the Rust prints it, `TapeNode { childs: [(CHILD, PARTIAL), .. ], adj: .. }`: its edges, each child by its address.
+fn edges(node: &str) -> Vec<(String, f64)> {
+    let list = node
+        .split_once("childs: [")
+        .and_then(|(_, rest)| rest.split_once(']'))
+        .map(|(list, _)| list)
+        .expect("a node has a list of children");
+    list.split_terminator("), ").map(edge).collect()
+}
+
+fn edge(text: &str) -> (String, f64) {
+    let (child, partial) = text
+        .strip_prefix('(')
+        .and_then(|text| text.split_once(", "))
+        .expect("an edge is a child and a partial");
+    (
+        child.to_string(),
+        partial.parse().expect("a partial is a float"),
+    )
+}
+
+/// How the Rust prints the node of a value, which has to be on the tape.
+fn node(x: Dual<f64>) -> String {
+    let pointer = x.node_ptr().expect("the value has a node");
+    TAPE.with(|tape| format!("{:?}", tape.borrow().node(pointer).expect("it is recorded")))
+}
+
+/// The addresses of the operands that are on the tape, left before right.
+fn addresses(operands: &[Operand]) -> Vec<String> {
+    let pointers = operands.iter().filter_map(Dual::node_ptr);
+    pointers.map(|pointer| format!("{pointer:?}")).collect()
+}
+
+/// The words of a case: its operands, the value, and the partial of each edge. The edges lead to the operands, in their order.
+fn words(form: &Form, pair: [f64; 2]) -> Vec<u64> {
+    Tape::rewind_to_init();
+    let letters = form.letters.as_bytes();
+    let operands: Vec<Operand> = letters
+        .iter()
+        .zip(pair)
+        .map(|(&letter, x)| operand(letter, x))
+        .collect();
+    let left = operands[0];
+    let right = *operands.get(1).unwrap_or(&left);
+    let recorded = (form.record)(left, right);
+    let (children, partials): (Vec<String>, Vec<f64>) = edges(&node(recorded)).into_iter().unzip();
+    assert_eq!(children, addresses(&operands), "the edges are the operands");
+    let given = pair.into_iter().take(letters.len());
+    given
+        .chain([recorded.value()])
+        .chain(partials)
+        .map(bits)
+        .collect()
+}
+
+fn print_case(out: &mut impl Write, kind: &Kind, form: &Form, pair: [f64; 2]) -> io::Result<()> {
+    write!(out, "{} {}", kind.name, form.letters)?;
+    for word in words(form, pair) {
+        write!(out, " {word:016x}")?;
+    }
+    out.write_all(b"\n")
+}
+
+/// One form at the special values: all pairs, or each value once.
+fn print_special(out: &mut impl Write, kind: &Kind, form: &Form) -> io::Result<()> {
+    let rights = if form.letters.len() == 2 {
+        &SPECIAL[..]
+    } else {
+        &SPECIAL[..1]
+    };
+    for left in SPECIAL {
+        for &right in rights {
+            print_case(out, kind, form, [left, right])?;
+        }
+    }
+    Ok(())
+}
+
+/// Two operands of one sort, tame or wild, now and then equal ones.
+fn seeded_pair(random: &mut Random) -> [f64; 2] {
+    let sort = if random.once_in(2) {
+        Random::tame
+    } else {
+        Random::wild
+    };
+    let left = sort(random);
+    let right = if random.once_in(8) {
+        left
+    } else {
+        sort(random)
+    };
+    [left, right]
+}
+
+/// `count` cases of one kind, each in a seeded form.
+fn print_seeded(
+    out: &mut impl Write,
+    kind: &Kind,
+    random: &mut Random,
+    count: u64,
+) -> io::Result<()> {
+    for _ in 0..count {
+        let form = &kind.forms[random.below(kind.forms.len() as u64) as usize];
+        print_case(out, kind, form, seeded_pair(random))?;
+    }
+    Ok(())
+}
+
+fn print_all(seed: u64, count: u64) -> io::Result<()> {
+    let mut out = BufWriter::with_capacity(1 << 16, io::stdout().lock());
+    let mut random = Random::new(seed);
+    let kinds = kinds();
+    Tape::start_recording();
+    for kind in &kinds {
+        for form in &kind.forms {
+            print_special(&mut out, kind, form)?;
+        }
+    }
+    for kind in &kinds {
+        print_seeded(&mut out, kind, &mut random, count)?;
+    }
+    out.flush()
+}
+
+fn usage() -> ! {
+    eprintln!("usage: table SEED COUNT, whole numbers");
+    exit(2)
+}
+
+fn main() -> io::Result<()> {
+    let numbers: Option<Vec<u64>> = std::env::args().skip(1).map(|a| a.parse().ok()).collect();
+    match numbers.as_deref() {
+        Some(&[seed, count]) => print_all(seed, count),
+        _ => usage(),
+    }
+}
