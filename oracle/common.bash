@@ -3,7 +3,7 @@
 oracle=$(cd "$(dirname "${BASH_SOURCE[0]}")" && pwd)
 registry=$oracle/registry
 crates=$registry/usr/share/cargo/registry
-rust=${INGTHABOR_RUST:-$oracle/../../shared/docs/src}
+rust=${INGTHABOR_RUST:-}
 
 fail() {
     printf 'oracle: %s\n' "$*" >&2
@@ -21,7 +21,8 @@ need_cargo() {
 
 # The folder of the Rust being ported: it has src/ad and src/utils.
 need_rust() {
+    [ -n "$rust" ] || fail "set INGTHABOR_RUST to the folder of the Rust being ported, the one with src/ad and src/utils in it"
     [ -f "$rust/src/ad/forward.rs" ] && [ -f "$rust/src/utils/errors.rs" ] ||
-        fail "the Rust being ported is not in $rust (src/ad/forward.rs, src/utils/errors.rs): set INGTHABOR_RUST to its folder"
+        fail "no src/ad/forward.rs and src/utils/errors.rs in INGTHABOR_RUST, $rust"
     rust=$(cd "$rust" && pwd)
 }

@@ -1,7 +1,6 @@
 // A line of the operations table, recorded by the port and compared: the value, the edges and their partials.
 use crate::kinds;
 use crate::kinds::KINDS;
-use crate::kinds::OP_LEAF;
 use crate::kinds::OPERATIONS;
 use crate::nodes;
 use crate::nodes::Edge;
@@ -44,7 +43,7 @@ pub(crate) fn replay(list: &[u8], line: &[u8], tally: Tally) -> Tally {
         left: byte_at(line, letters),
         right: byte_at(line, letters + operands - 1),
     };
-    if !is_form(kind, form) {
+    if !is_form(form) {
         return report::malformed(list, tally);
     }
     let from = letters + operands;
@@ -59,9 +58,8 @@ pub(crate) fn replay(list: &[u8], line: &[u8], tally: Tally) -> Tally {
     judge(list, tally, kind, form, operands, edges, &case)
 }
 
-// A leaf has a plain number alone.
-fn is_form(kind: usize, form: Form) -> bool {
-    is_letter(form.left) & is_letter(form.right) & ((kind != OP_LEAF) | (form.left == b'p'))
+fn is_form(form: Form) -> bool {
+    is_letter(form.left) & is_letter(form.right)
 }
 
 fn is_letter(byte: u8) -> bool {

@@ -232,6 +232,27 @@ fn print_own_child() {
     );
 }
 
+/// A rewound value is taken while nothing is recorded, and put on the tape again.
+fn print_rewound_operand() {
+    Tape::start_recording();
+    let mut leaf: Dual<f64> = Dual::new(3.0);
+    Tape::rewind_to_init();
+    Tape::stop_recording();
+    let square: Dual<f64> = (leaf * leaf).into();
+    println!(
+        "rewound and stopped: square={:016x} on tape={}",
+        bits(square.value()),
+        square.is_on_tape()
+    );
+    Tape::start_recording();
+    leaf.put_on_tape();
+    println!(
+        "rewound and put on tape: value={:016x} on tape={}",
+        bits(leaf.value()),
+        leaf.is_on_tape()
+    );
+}
+
 /// A value without a node is no root, and has no adjoint.
 fn print_missing_root() {
     Tape::start_recording();
@@ -260,5 +281,6 @@ fn main() {
     print_free_slot();
     print_used_slot();
     print_own_child();
+    print_rewound_operand();
     print_missing_root();
 }

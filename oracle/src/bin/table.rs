@@ -22,9 +22,10 @@ struct Form {
     record: fn(Operand, Operand) -> Dual<f64>,
 }
 
-/// An operation in each of its forms.
+/// An operation in each of its forms, and whether its operands make edges.
 struct Kind {
     name: &'static str,
+    links: bool,
     forms: Vec<Form>,
 }
 
@@ -32,11 +33,18 @@ fn plain(x: Operand) -> Const<f64> {
     Const(x.value())
 }
 
+/// A value that is on the tape, put there again.
+fn put_again(mut x: Operand) -> Dual<f64> {
+    x.put_on_tape();
+    x
+}
+
 /// An operation of two operands, each a `Dual` or a `Const`.
 macro_rules! two {
     ($name:literal, $operation:path) => {
         Kind {
             name: $name,
+            links: true,
             forms: vec![
                 Form {
                     letters: "nn",
@@ -64,10 +72,17 @@ fn kinds() -> Vec<Kind> {
     vec![
         Kind {
             name: "leaf",
-            forms: vec![Form {
-                letters: "p",
-                record: |l, _| Dual::new(l.value()),
-            }],
+            links: false,
+            forms: vec![
+                Form {
+                    letters: "n",
+                    record: |l, _| put_again(l),
+                },
+                Form {
+                    letters: "p",
+                    record: |l, _| Dual::new(l.value()),
+                },
+            ],
         },
         two!("add", Add::add),
         two!("sub", Sub::sub),
@@ -77,6 +92,7 @@ fn kinds() -> Vec<Kind> {
         two!("min", min),
         Kind {
             name: "neg",
+            links: true,
             forms: vec![
                 Form {
                     letters: "n",
@@ -133,7 +149,7 @@ fn addresses(operands: &[Operand]) -> Vec<String> {
 }
 
 /// The words of a case: its operands, the value, and the partial of each edge. The edges lead to the operands, in their order.
-fn words(form: &Form, pair: [f64; 2]) -> Vec<u64> {
+fn words(kind: &Kind, form: &Form, pair: [f64; 2]) -> Vec<u64> {
     Tape::rewind_to_init();
     let letters = form.letters.as_bytes();
     let operands: Vec<Operand> = letters
@@ -145,7 +161,8 @@ fn words(form: &Form, pair: [f64; 2]) -> Vec<u64> {
     let right = *operands.get(1).unwrap_or(&left);
     let recorded = (form.record)(left, right);
     let (children, partials): (Vec<String>, Vec<f64>) = edges(&node(recorded)).into_iter().unzip();
-    assert_eq!(children, addresses(&operands), "the edges are the operands");
+    let linked = if kind.links { &operands[..] } else { &[] };
+    assert_eq!(children, addresses(linked), "the edges are the operands");
     let given = pair.into_iter().take(letters.len());
     given
         .chain([recorded.value()])
@@ -156,7 +173,7 @@ fn words(form: &Form, pair: [f64; 2]) -> Vec<u64> {
 
 fn print_case(out: &mut impl Write, kind: &Kind, form: &Form, pair: [f64; 2]) -> io::Result<()> {
     write!(out, "{} {}", kind.name, form.letters)?;
-    for word in words(form, pair) {
+    for word in words(kind, form, pair) {
         write!(out, " {word:016x}")?;
     }
     out.write_all(b"\n")
