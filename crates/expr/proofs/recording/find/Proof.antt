@@ -9,7 +9,6 @@ find-spec =
     (tie.spec
     (λ c. search needs)
     (λ _ _. tt)
-    (λ c. search needs)
-    (λ c κs. search needs)
+    (λ c. search needs) (λ c κs. search needs)
     (λ c. rw (c .before .before .operand .given .1, c .unlinked .ensures))
     (λ c. rw (c .before .before .operand2 .given .1, c .find-node .ensures)))

@@ -12,8 +12,7 @@ find-node-spec =
     tie.close
     (tie.spec
     (λ _ _. tt)
-    (λ c. search needs)
-    (λ c. search needs)
+    (λ c. search needs) (λ c. search needs)
     (λ c. let b : c .before .before .before .before .before .args .handle .index < c .before .before .before .before .before .args .length = below _ _ (now (c .before .before .before .before .before .args .serial)) (c .before .before .before .before .before .args .handle) (c .before .before .lookup .ensures) (c .enum-told2 .given .1) in omega arith)
     (λ c. let b : c .before .before .before .before .before .before .args .handle .index < c .before .before .before .before .before .before .args .length = below _ _ (now (c .before .before .before .before .before .before .args .serial)) (c .before .before .before .before .before .before .args .handle) (c .before .before .before .lookup .ensures) (c .before .enum-told2 .given .1) in omega arith)
     (λ c. let b : c .before .before .before .before .before .before .args .handle .index < c .before .before .before .before .before .before .args .length = below _ _ (now (c .before .before .before .before .before .before .args .serial)) (c .before .before .before .before .before .before .args .handle) (c .before .before .before .lookup .ensures) (c .before .enum-told2 .given .1) in omega arith)

@@ -8,8 +8,7 @@ pub from-right-spec : {M : Type 1} → statement M
 from-right-spec =
     tie.close
     (tie.spec
-    (λ c. search needs)
-    (λ c. search needs)
+    (λ c. search needs) (λ c. search needs)
     (λ _ _. tt)
     (λ _ _. tt)
     (λ c. rw (c .enum-told .given .1))
