@@ -11,7 +11,7 @@ use lib.Ieee.{Float, nan, binary64, ofBits}
 use lib.ListN.{getD}
 use Rattle.tape.specs.Numbers.{floats}
 use Rattle.tape.specs.Machine.{Machine, capacity, fits}
-use Rattle.tape.specs.Handles.{plain, node, live, lives, worth, handles, operand}
+use Rattle.tape.specs.Handles.{live, worth, handles, operand}
 use Rattle.tape.specs.Operations.{Row, row, rows, as-stored, apply, known, one-sided, used}
 use Rattle.tape.specs.Answers.{Answer, refused, detached, recorded}
 use Rattle.tape.specs.Calls.{Edge, edge, edges, operate, issued, written, any-stale, last-serial, step}
@@ -19,7 +19,7 @@ use Rattle.tape.specs.declared.errors.Refusal.{Refusal}
 use Rattle.tape.specs.declared.errors.Refusal.the-variants.{Misshapen, UnknownOperation, NotLive, Full, SerialsSpent}
 use Rattle.tape.specs.declared.node.Operand.{Operand}
 use Rattle.tape.specs.declared.node.Operand.the-variants.{Number, Node}
-use Rattle.tape.proofs.Tests.{Fit, fit}
+use Rattle.tape.proofs.Tests.{by-or, Fit, fit}
 use Rattle.expr.specs.Outcome.{given}
 use Rattle.expr.specs.Inner.{Reads, decided, found-operand, unlinked, made-from, made-of, row-by, row-of, edge-of, edges-of, edges-told, settled}
 use Rattle.expr.specs.declared.operations.Supplied.{Supplied}
@@ -63,10 +63,6 @@ left-first : (op : ℕ) (l r : Float) (g : Supplied) → let s = apply {N = floa
 left-first op l r g =
     let s = getD (rows {N = floats} l r (given g)) op (row nan none none) in
     as-stored-so (s .left) (s .right) (firsts (rows {N = floats} l r (given g)) op (tt, (tt, (tt, (tt, (tt, (tt, (tt, (tt, (tt, (tt, tt)))))))))))
-
-by-or : {P : Type 0} (a b : Bool) → (a ≡ true → P) → (b ≡ true → P) → a || b ≡ true → P
-by-or true b f g e = f refl
-by-or false b f g e = g e
 
 -- ---- operands
 
@@ -145,15 +141,7 @@ module _ (M : Machine floats) where
 
   -- an operation that uses the left operand alone makes the same of any right one
   alone-so : (op : ℕ) (l r : Operand) (g : Supplied) (x : Float) → one-sided op ≡ true → made op l (Number x) g ≡ made op l r g
-  alone-so op l r g x = by-or _ _ (by-or _ _ (λ t. at-zero t) (λ t. at-seven t)) (λ t. at-eight t) where
-    at-zero : eqb op 0 ≡ true → made op l (Number x) g ≡ made op l r g
-    at-zero t = rw (eqb-true op 0 t, no-partial r)
-
-    at-seven : eqb op 7 ≡ true → made op l (Number x) g ≡ made op l r g
-    at-seven t = rw (eqb-true op 7 t, no-partial r)
-
-    at-eight : eqb op 8 ≡ true → made op l (Number x) g ≡ made op l r g
-    at-eight t = rw (eqb-true op 8 t, no-partial r)
+  alone-so op l r g x = by-or _ _ (by-or _ _ (λ t. rw (eqb-true op 0 t, no-partial r)) (λ t. rw (eqb-true op 7 t, no-partial r))) (λ t. rw (eqb-true op 8 t, no-partial r))
 
   abbrev Decides : ℕ → Operand → Operand → Supplied → Type 0
   Decides op l r g =

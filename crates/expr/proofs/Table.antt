@@ -1,4 +1,4 @@
--- Past the operations table.
+-- What stands past the operations table, and which row the code's row is.
 use Prim.Native.Nat.{ℕ, suc, _≤_}
 use native.Mathlib.Omega.{arith}
 use mathlib.Core.Path.{_≡_, refl, ap, _∙_}

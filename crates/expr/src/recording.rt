@@ -4,6 +4,7 @@ use crate::operations::Supplied;
 use crate::operations::Uses;
 use tape::Handle;
 use tape::Lookup;
+use tape::MOST_EDGES;
 use tape::Operand;
 use tape::Refusal;
 use tape::Tape;
@@ -284,7 +285,7 @@ fn write_edges(at: usize, count: &mut [u8], child: &mut [u16], partial: &mut [f6
         × (now (child .exit) ≡ sets (now (child .entry)) (slot at) (map (λ e. e .child) (edges-told edges)))
         × (now (partial .exit) ≡ sets (now (partial .entry)) (slot at) (map (λ e. e .weight) (edges-told edges))) ⌝ }
 {
-    let slot = 2 * at;
+    let slot = MOST_EDGES * at;
     match edges {
         Edges::None => {
             count[at] = 0;

@@ -17,7 +17,7 @@ use Rattle.tape.specs.Operations.{Given, apply, one-sided}
 use Rattle.tape.specs.Answers.{Answer, answer, refused, recorded}
 use Rattle.tape.specs.Calls.{Move, start, stop, set-mark, reset-mark, rewind-to-mark, rewind-to-init, Call, move, operate, Edge, edge, edges, issued, written, asked, unknown, any-stale, would-record, last-serial, carried, step}
 use Rattle.tape.specs.Kept.{after}
-use Rattle.tape.proofs.Tests.{by-test, every, Fit, fit, state-fit}
+use Rattle.tape.proofs.Tests.{by-test, by-or, every, Fit, fit, state-fit}
 use Rattle.tape.specs.declared.errors.Refusal.{Refusal}
 use Rattle.tape.specs.declared.errors.Refusal.the-variants.{Misshapen, UnknownOperation, NotLive, Full, SerialsSpent}
 use Rattle.tape.specs.declared.node.Handle.{Handle}
@@ -97,10 +97,6 @@ module _ {N : Numbers} (M : Machine N) where
   both-ok true left right p q alone e = rw (alone refl, no-partial right) (edge-ok left p [] [] 1 e (λ _. no-edges 1))
   both-ok false left right p q alone e =
       edge-ok left p (right ∷ []) (edge right q) 1 e (λ e′. rw append-nil at (edge-ok right q [] [] 0 e′ (λ _. no-edges 0)))
-
-by-or : {P : Type 0} (a b : Bool) → (a ≡ true → P) → (b ≡ true → P) → a || b ≡ true → P
-by-or true b f g e = f refl
-by-or false b f g e = g e
 
 -- the operations that use the left operand alone have no right partial
 alone : {N : Numbers} (op : ℕ) (l r : N .Number) (g : Given N) → one-sided op ≡ true → apply op l r g .right ≡ none

@@ -1,7 +1,7 @@
 -- What tests tell: a branch, a list of tests that all hold, and refusal 1's not being given.
 use Prim.Native.Nat.{ℕ, _≤_}
 use mathlib.Core.Path.{_≡_, refl}
-use mathlib.Core.Bool.{Bool, true, false, cond, and-eq-true-iff}
+use mathlib.Core.Bool.{Bool, true, false, _||_, cond, and-eq-true-iff}
 use mathlib.Core.List.{List, [], _∷_, _++_}
 use borrow.Author.Tests.{leb-true, eqb-true, eqb-false, not-true}
 use lib.ListN.{length}
@@ -12,6 +12,10 @@ use Rattle.tape.specs.declared.state.Tape.{Tape}
 pub by-test : {A : Type 0} (P : A → Type 0) (b : Bool) {x y : A} → (b ≡ true → P x) → (b ≡ false → P y) → P (cond b x y)
 by-test P true f g = f refl
 by-test P false f g = g refl
+
+pub by-or : {P : Type 0} (a b : Bool) → (a ≡ true → P) → (b ≡ true → P) → a || b ≡ true → P
+by-or true b f g e = f refl
+by-or false b f g e = g e
 
 abbrev pub Every : List Bool → Type 0
 Every [] = Unit {0}

@@ -7,7 +7,7 @@ use mathlib.Core.Option.{Option, none, some}
 use lib.Dec.{leb, ltb}
 use lib.ListN.{getD, take, drop}
 use Rattle.tape.specs.Numbers.{Numbers, floats}
-use Rattle.tape.specs.Machine.{Arrays, Machine, machine, slot, new-tape, all}
+use Rattle.tape.specs.Machine.{Arrays, Machine, machine, most-edges, slot, new-tape, all}
 use Rattle.tape.specs.Handles.{Operand, node, live, worth}
 use Rattle.tape.specs.Operations.{Given}
 use Rattle.tape.specs.Answers.{Answer}
@@ -79,7 +79,7 @@ pub record Serials : Type 1 where
 abbrev pub sound : {N : Numbers} → Arrays N → ℕ → Bool
 sound A i =
     let k = getD (A .count) i 0 in
-    leb k 2 && all (map (λ c. ltb c i) (take k (drop (slot i) (A .child))))
+    leb k most-edges && all (map (λ c. ltb c i) (take k (drop (slot i) (A .child))))
 
 -- two sets of arrays agree on the first n nodes
 pub record SameBelow {N : Numbers} (n : ℕ) (A B : Arrays N) : Type 0 where

@@ -1,5 +1,5 @@
 -- The machine: a small state and six lent arrays. The state is the code's own `Tape`: length, mark, active flag, next serial.
-use Prim.Native.Nat.{ℕ, _+_, _*_}
+use Prim.Native.Nat.{ℕ, _*_}
 use mathlib.Core.Bool.{Bool, true, false, not, _&&_, cond}
 use mathlib.Core.List.{List, [], _∷_, _++_}
 use lib.Dec.{leb, eqb}
@@ -29,9 +29,12 @@ machine t A = record { state = t; lent = A }
 abbrev pub capacity : {N : Numbers} → Arrays N → ℕ
 capacity A = length (A .value)
 
--- a node's edges stand from this slot on
+-- a node has room for two edges, which stand from its slot on
+abbrev pub most-edges : ℕ
+most-edges = 2
+
 abbrev pub slot : ℕ → ℕ
-slot i = 2 * i
+slot i = most-edges * i
 
 abbrev pub new-tape : Tape
 new-tape = record { length = 0; mark = 0; active = false; next = 1 }

@@ -8,6 +8,7 @@ pub mod state;
 pub use errors::Refusal;
 pub use node::Handle;
 pub use node::Lookup;
+pub use node::MOST_EDGES;
 pub use node::Operand;
 pub use state::Moved;
 pub use state::Tape;

@@ -2,6 +2,9 @@
 ghost use mathlib.Core.Path.{_≡_};
 ghost use Rattle.tape.specs.Handles.{looked-up};
 
+// How many edges a node has room for.
+pub const MOST_EDGES: usize = 2;
+
 // The node at index, as long as the serial stored there is this one.
 pub struct Handle {
     pub index: usize,

@@ -1,5 +1,6 @@
 // The tape's small state. Start, stop, marks and rewinds take it by value and hand it back, as it was where they refuse. None of them touches an array.
 use crate::errors::Refusal;
+use crate::node::MOST_EDGES;
 ghost use mathlib.Core.Path.{_≡_};
 ghost use mathlib.Core.Bool.{true, cond};
 ghost use Rattle.tape.specs.Numbers.{floats};
@@ -120,7 +121,7 @@ impl Tape {
         if 65_535 < capacity {
             return false;
         }
-        let slots = 2 * capacity;
+        let slots = MOST_EDGES * capacity;
         (adjoint.len() == capacity)
             & (serial.len() == capacity)
             & (count.len() == capacity)

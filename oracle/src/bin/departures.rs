@@ -232,10 +232,10 @@ fn print_own_child() {
     );
 }
 
-/// A rewound value is taken while nothing is recorded, and put on the tape again.
-fn print_rewound_operand() {
+/// A rewound value is taken while nothing is recorded.
+fn print_stopped() {
     Tape::start_recording();
-    let mut leaf: Dual<f64> = Dual::new(3.0);
+    let leaf: Dual<f64> = Dual::new(3.0);
     Tape::rewind_to_init();
     Tape::stop_recording();
     let square: Dual<f64> = (leaf * leaf).into();
@@ -244,7 +244,13 @@ fn print_rewound_operand() {
         bits(square.value()),
         square.is_on_tape()
     );
+}
+
+/// A rewound value is put on the tape again.
+fn print_put_again() {
     Tape::start_recording();
+    let mut leaf: Dual<f64> = Dual::new(3.0);
+    Tape::rewind_to_init();
     leaf.put_on_tape();
     println!(
         "rewound and put on tape: value={:016x} on tape={}",
@@ -281,6 +287,7 @@ fn main() {
     print_free_slot();
     print_used_slot();
     print_own_child();
-    print_rewound_operand();
+    print_stopped();
+    print_put_again();
     print_missing_root();
 }
