@@ -14,7 +14,8 @@ use Rattle.tape.specs.Machine.{Machine, capacity, fits}
 use Rattle.tape.specs.Handles.{live, worth, handles, operand}
 use Rattle.tape.specs.Operations.{Row, row, rows, as-stored, apply, known, one-sided, used}
 use Rattle.tape.specs.Answers.{Answer, refused, detached, recorded}
-use Rattle.tape.specs.Calls.{Edge, edge, edges, operate, issued, written, any-stale, last-serial, step}
+use Rattle.tape.specs.Walk.{Edge}
+use Rattle.tape.specs.Calls.{edge, edges, operate, issued, written, any-stale, last-serial, step}
 use Rattle.tape.specs.declared.errors.Refusal.{Refusal}
 use Rattle.tape.specs.declared.errors.Refusal.the-variants.{Misshapen, UnknownOperation, NotLive, Full, SerialsSpent}
 use Rattle.tape.specs.declared.node.Operand.{Operand}

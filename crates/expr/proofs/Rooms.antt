@@ -9,7 +9,8 @@ use native.Mathlib.Omega.{arith}
 use Rattle.tape.specs.Numbers.{floats}
 use Rattle.tape.specs.Machine.{Machine, capacity, fits}
 use Rattle.tape.specs.Answers.{recorded}
-use Rattle.tape.specs.Calls.{Edge, issued, written, last-serial}
+use Rattle.tape.specs.Walk.{Edge}
+use Rattle.tape.specs.Calls.{issued, written, last-serial}
 use Rattle.tape.proofs.Tests.{Fit, fit}
 use Rattle.expr.specs.Inner.{Room, settled}
 

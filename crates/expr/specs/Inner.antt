@@ -12,7 +12,8 @@ use Rattle.tape.specs.Handles.{lives}
 use Rattle.tape.specs.Operations.{row, known, one-sided, apply}
 use Rattle.tape.specs.Operations as operations
 use Rattle.tape.specs.Answers.{Answer, refused, detached, recorded}
-use Rattle.tape.specs.Calls.{Edge, issued, written, last-serial}
+use Rattle.tape.specs.Walk.{Edge}
+use Rattle.tape.specs.Calls.{issued, written, last-serial}
 use Rattle.tape.specs.declared.errors.Refusal.the-variants.{UnknownOperation, NotLive, Full, SerialsSpent}
 use Rattle.tape.specs.declared.node.Handle.{Handle}
 use Rattle.tape.specs.declared.node.Operand.{Operand}

@@ -12,36 +12,51 @@ use lib.Dec.{ltb, eqb}
 use lib.ListN.{length, getD}
 use Rattle.tape.specs.Numbers.{Numbers}
 use Rattle.tape.specs.Machine.{Machine, arrays, machine, capacity, slot, all, fits, arrays-fit, state-fits}
-use Rattle.tape.specs.Handles.{Operand, plain, node, live, worth, handles, lives}
+use Rattle.tape.specs.Handles.{Operand, plain, node, live, worth, handles, any-plain, lives}
 use Rattle.tape.specs.Operations.{Given, apply, one-sided}
+use Rattle.tape.specs.Walk.{Edge, sound}
 use Rattle.tape.specs.Answers.{Answer, answer, refused, recorded}
-use Rattle.tape.specs.Calls.{Move, start, stop, set-mark, reset-mark, rewind-to-mark, rewind-to-init, Call, move, operate, Edge, edge, edges, issued, written, asked, unknown, any-stale, would-record, last-serial, carried, step}
+use Rattle.tape.specs.Calls.{Move, start, stop, set-mark, reset-mark, rewind-to-mark, rewind-to-init, Call, move, operate, clear, pass, value-of, adjoint-of, is-live, list, edge, edges, issued, written, asked, refusals, unless, unknown, any-stale, would-record, too-long, last-serial, carried, step}
 use Rattle.tape.specs.Kept.{after}
 use Rattle.tape.proofs.Tests.{by-test, by-or, every, Fit, fit, state-fit}
 use Rattle.tape.specs.declared.errors.Refusal.{Refusal}
-use Rattle.tape.specs.declared.errors.Refusal.the-variants.{Misshapen, UnknownOperation, NotLive, Full, SerialsSpent}
+use Rattle.tape.specs.declared.errors.Refusal.the-variants.{Misshapen}
 use Rattle.tape.specs.declared.node.Handle.{Handle}
 use Rattle.tape.specs.declared.state.Tape.{Tape}
 
--- ---- no test hit
+-- ---- the first test that hits
 
+-- r is the first refusal of a table whose test hits
+pub data Hit (r : Refusal) : List (Refusal × Bool) → Type 0 where
+  here : {hit : Bool} {ts : List (Refusal × Bool)} → hit ≡ true → Hit r ((r, hit) ∷ ts)
+  there : {q : Refusal} {hit : Bool} {ts : List (Refusal × Bool)} → hit ≡ false → Hit r ts → Hit r ((q, hit) ∷ ts)
+
+abbrev Missed : List (Refusal × Bool) → Type 0
+Missed [] = Unit {0}
+Missed ((r, hit) ∷ ts) = (hit ≡ false) × Missed ts
+
+by-unless : {N : Numbers} (P : Answer N × Machine N → Type 0) (ts : List (Refusal × Bool)) (M : Machine N) {x : Answer N × Machine N} → ((r : Refusal) → Hit r ts → P (refused r, M)) → (Missed ts → P x) → P (unless ts M x)
+by-unless P [] M hit missed = missed tt
+by-unless P ((r, b) ∷ ts) M hit missed = by-test P b (λ e. hit r (here e)) (λ e. by-unless P ts M (λ q h. hit q (there e h)) (λ m. missed (e, m)))
+
+-- no test hit
 pub record Passed {N : Numbers} (c : Call N) (M : Machine N) : Type 0 where
-  pub shape : fits (asked c .arrays) M ≡ true
-  pub known : unknown (asked c .operation) ≡ false
-  pub all-live : any-stale M (asked c .handles) ≡ false
-  pub room : would-record (asked c .operation) M && eqb (M .state .length) (capacity (M .lent)) ≡ false
-  pub serial : would-record (asked c .operation) M && eqb (M .state .next) last-serial ≡ false
+  pub shape : fits (asked c (M .state) .arrays) M ≡ true
+  pub known : unknown (asked c (M .state) .operation) ≡ false
+  pub all-live : any-stale M (handles (asked c (M .state) .operands)) ≡ false
+  pub standing : asked c (M .state) .on-tape && any-plain (asked c (M .state) .operands) ≡ false
+  pub room : would-record (asked c (M .state) .operation) M && eqb (M .state .length) (capacity (M .lent)) ≡ false
+  pub serial : would-record (asked c (M .state) .operation) M && eqb (M .state .next) last-serial ≡ false
+  pub sound-range : all (map (sound (M .lent)) (asked c (M .state) .range)) ≡ true
+  pub short : too-long (asked c (M .state) .room) M ≡ false
 
--- a step is a refusal, or what the call does with no test hit
-pub by-refusal : {N : Numbers} (P : Answer N × Machine N → Type 0) (c : Call N) (M : Machine N) → ((r : Refusal) → P (refused r, M)) → (Passed c M → P (carried c M)) → P (step c M)
+-- a step is the first refusal that hits, or what the call does with no test hit
+pub by-refusal : {N : Numbers} (P : Answer N × Machine N → Type 0) (c : Call N) (M : Machine N) → ((r : Refusal) → Hit r (refusals (asked c (M .state)) M) → P (refused r, M)) → (Passed c M → P (carried c M)) → P (step c M)
 unfolding step
 by-refusal P c M hit passed =
-    by-test P _ (λ _. hit Misshapen) (λ shape.
-    by-test P _ (λ _. hit UnknownOperation) (λ known.
-    by-test P _ (λ _. hit NotLive) (λ all-live.
-    by-test P _ (λ _. hit Full) (λ room.
-    by-test P _ (λ _. hit SerialsSpent) (λ serial.
-    passed (record { shape = not-false _ shape; known = known; all-live = all-live; room = room; serial = serial }))))))
+    by-unless P (refusals (asked c (M .state)) M) M hit
+    (λ (shape, (known, (all-live, (standing, (room, (serial, (unsound, (short, _)))))))).
+    passed (record { shape = not-false _ shape; known = known; all-live = all-live; standing = standing; room = room; serial = serial; sound-range = not-false _ unsound; short = short }))
 
 -- a machine that has room for a node
 pub record Ready {N : Numbers} (M : Machine N) : Type 0 where
@@ -71,7 +86,7 @@ lives-so n ss h l = simp (lt-ltb _ _ (l .below), ne-eqb _ _ (l .serial), eq-eqb 
 -- at most k edges, each to a node below n
 pub record Edges {N : Numbers} (n k : ℕ) (es : List (Edge N)) : Type 0 where
   pub few : length es ≤ k
-  pub below : all (map (λ c. ltb c n) (map (λ e. e .child) es)) ≡ true
+  pub below : all (map (λ e. ltb (e .child) n) es) ≡ true
 
 or-false : (a b : Bool) → a || b ≡ false → (a ≡ false) × (b ≡ false)
 or-false true b e = (e, absurd (true≢false e))
@@ -126,9 +141,15 @@ carried-effect (move m) M p = move-effect m M (state-fit 65535 (M .state) (p .sh
 carried-effect (operate op left right g) M p =
     let s = apply op (worth M left) (worth M right) g in
     by-test (Effect M) (M .state .active) (λ active. records (s .value) (edges left right s) (ready M (p .shape) (rw active at (p .room))) (both-ok M (one-sided op) left right (s .left) (s .right) (alone op (worth M left) (worth M right) g) (p .all-live))) (λ _. keeps (le-refl _))
+carried-effect clear M p = keeps (le-refl _)
+carried-effect (pass p) M _ = keeps (le-refl _)
+carried-effect (value-of x) M p = keeps (le-refl _)
+carried-effect (adjoint-of x) M p = keeps (le-refl _)
+carried-effect (is-live x) M p = keeps (le-refl _)
+carried-effect (list bytes) M p = keeps (le-refl _)
 
 pub effect : {N : Numbers} (c : Call N) (M : Machine N) → Effect M (step c M)
-effect c M = by-refusal (Effect M) c M (λ r. keeps (le-refl _)) (carried-effect c M)
+effect c M = by-refusal (Effect M) c M (λ r _. keeps (le-refl _)) (carried-effect c M)
 
 -- what every step keeps, every sequence of calls keeps
 pub kept : {N : Numbers} (P : Machine N → Type 0) → ((M : Machine N) (x : Answer N × Machine N) → Effect M x → P M → P (x .1)) → (cs : List (Call N)) (M : Machine N) → P M → P (after cs M)

@@ -33,13 +33,21 @@ answer k v h n = record { number = k; value = v; handle = h; count = n }
 abbrev pub refused : {N : Numbers} → Refusal → Answer N
 refused {N} r = answer (number r) (N .nought) none 0
 
--- start, stop, marks and rewinds: nothing but that it was done
+-- start, stop, marks, rewinds and clearing: nothing but that it was done
 abbrev pub done : {N : Numbers} → Answer N
 done {N} = answer 0 (N .nought) none 0
 
+-- a value that is read
+abbrev pub told : {N : Numbers} → N .Number → Answer N
+told v = answer 0 v none 0
+
 -- a value that stands on no tape
 abbrev pub detached : {N : Numbers} → N .Number → Answer N
-detached v = answer 0 v none 0
+detached v = told v
+
+-- edges visited, bytes written, or 1 for a handle that is live and 0 for one that is not
+abbrev pub counted : {N : Numbers} → ℕ → Answer N
+counted {N} n = answer 0 (N .nought) none n
 
 -- a value and its node's handle
 abbrev pub recorded : {N : Numbers} → N .Number → Handle → Answer N

@@ -1,29 +1,41 @@
 -- The calls, and what each does to the machine: `step` carries out one call and `run` a list of them.
 -- The refusals stand in one table, in order. The first test that hits refuses the call and leaves the machine as it was.
-use Prim.Native.Nat.{ℕ, _+_}
+use Prim.Native.Nat.{ℕ, suc, _+_, _-_}
 use mathlib.Core.Bool.{Bool, true, false, not, _&&_, _||_, cond}
 use mathlib.Core.List.{List, [], _∷_, _++_, map}
 use mathlib.Core.Option.{Option, none, some}
-use lib.Dec.{eqb}
-use lib.ListN.{length, set}
+use lib.Dec.{ltb, eqb}
+use lib.ListN.{length, set, drop, replicate}
 use lib.Seq.{sets}
 use Rattle.tape.specs.Numbers.{Numbers}
-use Rattle.tape.specs.Machine.{Arrays, Machine, arrays, machine, capacity, slot, fits}
-use Rattle.tape.specs.Handles.{Operand, plain, node, live, worth, handles}
+use Rattle.tape.specs.Machine.{Arrays, Machine, arrays, machine, capacity, slot, all, fits}
+use Rattle.tape.specs.Handles.{Operand, plain, node, live, worth, gradient, is-live-node, handles, any-plain}
 use Rattle.tape.specs.Operations.{Given, Row, apply, known, used}
-use Rattle.tape.specs.Answers.{Answer, refused, done, detached, recorded}
+use Rattle.tape.specs.Walk.{Edge, walk, edges-at, indexes, visited, sound}
+use Rattle.tape.specs.Listing.{listing}
+use Rattle.tape.specs.Answers.{Answer, refused, done, told, detached, recorded, counted}
 use Rattle.tape.specs.declared.errors.Refusal.{Refusal}
-use Rattle.tape.specs.declared.errors.Refusal.the-variants.{Misshapen, UnknownOperation, NotLive, Full, SerialsSpent}
+use Rattle.tape.specs.declared.errors.Refusal.the-variants.{Misshapen, UnknownOperation, NotLive, Detached, Full, SerialsSpent, UnsoundEdge, ListingTooLong}
 use Rattle.tape.specs.declared.node.Handle.{Handle}
 use Rattle.tape.specs.declared.state.Tape.{Tape}
 
 pub data Move : Type 0 where
   start stop set-mark reset-mark rewind-to-mark rewind-to-init : Move
 
+-- the reverse passes: from a root, to the mark or from it to the start, the last two also without a root
+pub data Pass (N : Numbers) : Type 0 where
+  backward backward-to-mark backward-mark-to-start : Operand N → Pass N
+  propagate-to-mark propagate-mark-to-start : Pass N
+
 pub data Call (N : Numbers) : Type 0 where
   move : Move → Call N
   -- operation number, left and right operand, what the host supplies
   operate : ℕ → Operand N → Operand N → Given N → Call N
+  clear : Call N
+  pass : Pass N → Call N
+  value-of adjoint-of is-live : Operand N → Call N
+  -- how many bytes are lent for it
+  list : ℕ → Call N
 
 -- ---- start, stop, marks and rewinds
 
@@ -36,10 +48,6 @@ moved rewind-to-mark t = record { length = t .mark; mark = t .mark; active = t .
 moved rewind-to-init t = record { length = 0; mark = 0; active = t .active; next = t .next }
 
 -- ---- recording
-
-pub record Edge (N : Numbers) : Type 0 where
-  pub child : ℕ
-  pub weight : N .Number
 
 -- a handle makes an edge if there is a partial for it; a plain number makes none
 abbrev pub edge : {N : Numbers} → Operand N → Option (N .Number) → List (Edge N)
@@ -74,20 +82,72 @@ with-node {N} h A v es =
 abbrev pub written : {N : Numbers} → Machine N → N .Number → List (Edge N) → Machine N
 written M v es = machine (grown (M .state)) (with-node (issued (M .state)) (M .lent) v es)
 
+-- ---- clearing and passes
+
+abbrev pub with-adjoints : {N : Numbers} → Machine N → List (N .Number) → Machine N
+with-adjoints M s = machine (M .state) (arrays (M .lent .value) s (M .lent .serial) (M .lent .count) (M .lent .child) (M .lent .partial))
+
+-- +0.0 in each live adjoint; those past the length stay
+abbrev pub cleared : {N : Numbers} → Machine N → Machine N
+cleared {N} M = let n = M .state .length in with-adjoints M (replicate n (N .nought) ++ drop n (M .lent .adjoint))
+
+-- what a pass does: the adjoint of its root, if it has one, is set to 1.0, and then the nodes from end - 1 down to from are walked
+pub record Plan (N : Numbers) : Type 0 where
+  pub root : List (Operand N)
+  pub from : ℕ
+  pub end : ℕ
+
+-- the index past a root's; a plain number is no root, and refused
+abbrev pub past : {N : Numbers} → Operand N → ℕ
+past (plain x) = 0
+past (node h) = suc (h .index)
+
+abbrev pub plan : {N : Numbers} → Pass N → Tape → Plan N
+plan (backward x) t = record { root = x ∷ []; from = 0; end = past x }
+plan (backward-to-mark x) t = record { root = x ∷ []; from = t .mark; end = t .length }
+plan (backward-mark-to-start x) t = record { root = x ∷ []; from = 0; end = t .mark }
+plan propagate-to-mark t = record { root = []; from = t .mark; end = t .length }
+plan propagate-mark-to-start t = record { root = []; from = 0; end = t .mark }
+
+abbrev pub range : {N : Numbers} → Plan N → List ℕ
+range P = indexes (P .from) (P .end - P .from)
+
+-- 1.0 is set and not added
+abbrev pub seeded : {N : Numbers} → List (Operand N) → List (N .Number) → List (N .Number)
+seeded [] s = s
+seeded (plain x ∷ os) s = seeded os s
+seeded {N} (node h ∷ os) s = seeded os (set s (h .index) (N .one))
+
+-- other adjoints are not cleared first
+abbrev pub walked : {N : Numbers} → Plan N → Machine N → Machine N
+walked P M = with-adjoints M (walk (P .from) (map (edges-at (M .lent)) (range P)) (seeded (P .root) (M .lent .adjoint)))
+
 -- ---- refusals
 
 -- what a call asks for
-pub record Asked : Type 0 where
+pub record Asked (N : Numbers) : Type 0 where
   -- is it lent the tape's arrays
   pub arrays : Bool
   -- the operation it records, if it does
   pub operation : Option ℕ
-  -- the handles that have to be live
-  pub handles : List Handle
+  -- the operands, root or read argument whose handles have to be live
+  pub operands : List (Operand N)
+  -- do they have to stand on the tape
+  pub on-tape : Bool
+  -- the nodes to be walked
+  pub range : List ℕ
+  -- the bytes lent for a listing, if it is one
+  pub room : Option ℕ
 
-abbrev pub asked : {N : Numbers} → Call N → Asked
-asked (move m) = record { arrays = false; operation = none; handles = [] }
-asked (operate op left right g) = record { arrays = true; operation = some op; handles = handles (used op left right) }
+abbrev pub asked : {N : Numbers} → Call N → Tape → Asked N
+asked (move m) t = record { arrays = false; operation = none; operands = []; on-tape = false; range = []; room = none }
+asked (operate op left right g) t = record { arrays = true; operation = some op; operands = used op left right; on-tape = false; range = []; room = none }
+asked clear t = record { arrays = true; operation = none; operands = []; on-tape = false; range = []; room = none }
+asked (pass p) t = record { arrays = true; operation = none; operands = plan p t .root; on-tape = true; range = range (plan p t); room = none }
+asked (value-of x) t = record { arrays = true; operation = none; operands = x ∷ []; on-tape = false; range = []; room = none }
+asked (adjoint-of x) t = record { arrays = true; operation = none; operands = x ∷ []; on-tape = true; range = []; room = none }
+asked (is-live x) t = record { arrays = true; operation = none; operands = []; on-tape = false; range = []; room = none }
+asked (list bytes) t = record { arrays = true; operation = none; operands = []; on-tape = false; range = []; room = some bytes }
 
 abbrev pub unknown : Option ℕ → Bool
 unknown none = false
@@ -102,17 +162,25 @@ abbrev pub would-record : {N : Numbers} → Option ℕ → Machine N → Bool
 would-record none M = false
 would-record (some op) M = M .state .active
 
+-- does a listing not fit
+abbrev pub too-long : {N : Numbers} → Option ℕ → Machine N → Bool
+too-long none M = false
+too-long (some bytes) M = ltb bytes (length (listing M))
+
 -- the last serial is kept back, so that the next one never passes 64 bits
 abbrev pub last-serial : ℕ
 last-serial = 18446744073709551615
 
-abbrev pub refusals : {N : Numbers} → Asked → Machine N → List (Refusal × Bool)
+abbrev pub refusals : {N : Numbers} → Asked N → Machine N → List (Refusal × Bool)
 refusals q M =
     (Misshapen, not (fits (q .arrays) M))
     ∷ (UnknownOperation, unknown (q .operation))
-    ∷ (NotLive, any-stale M (q .handles))
+    ∷ (NotLive, any-stale M (handles (q .operands)))
+    ∷ (Detached, q .on-tape && any-plain (q .operands))
     ∷ (Full, would-record (q .operation) M && eqb (M .state .length) (capacity (M .lent)))
     ∷ (SerialsSpent, would-record (q .operation) M && eqb (M .state .next) last-serial)
+    ∷ (UnsoundEdge, not (all (map (sound (M .lent)) (q .range))))
+    ∷ (ListingTooLong, too-long (q .room) M)
     ∷ []
 
 -- the first test that hits; otherwise what the call does
@@ -128,9 +196,15 @@ carried (move m) M = (done, machine (moved m (M .state)) (M .lent))
 carried (operate op left right g) M =
     let s = apply op (worth M left) (worth M right) g in
     cond (M .state .active) (recorded (s .value) (issued (M .state)), written M (s .value) (edges left right s)) (detached (s .value), M)
+carried clear M = (done, cleared M)
+carried (pass p) M = let P = plan p (M .state) in (counted (visited (M .lent) (range P)), walked P M)
+carried (value-of x) M = (told (worth M x), M)
+carried (adjoint-of x) M = (told (gradient M x), M)
+carried (is-live x) M = (counted (cond (is-live-node M x) 1 0), M)
+carried (list bytes) M = (counted (length (listing M)), M)
 
 unfoldable pub step : {N : Numbers} → Call N → Machine N → Answer N × Machine N
-step c M = unless (refusals (asked c) M) M (carried c M)
+step c M = unless (refusals (asked c (M .state)) M) M (carried c M)
 
 abbrev pub run : {N : Numbers} → List (Call N) → Machine N → List (Answer N) × Machine N
 run [] M = ([], M)

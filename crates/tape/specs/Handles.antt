@@ -1,6 +1,6 @@
 -- Handles, and what a caller carries: a plain number or a handle.
 use Prim.Native.Nat.{ℕ}
-use mathlib.Core.Bool.{Bool, not, cond}
+use mathlib.Core.Bool.{Bool, true, false, not, cond}
 use mathlib.Core.List.{List, [], _∷_}
 use lib.Dec.{ltb, eqb}
 use lib.ListN.{getD}
@@ -35,8 +35,24 @@ abbrev pub worth : {N : Numbers} → Machine N → Operand N → N .Number
 worth M (plain x) = x
 worth {N} M (node h) = getD (M .lent .value) (h .index) (N .blank)
 
+-- the adjoint behind a handle; that of a plain number is refused
+abbrev pub gradient : {N : Numbers} → Machine N → Operand N → N .Number
+gradient {N} M (plain x) = N .nought
+gradient {N} M (node h) = getD (M .lent .adjoint) (h .index) (N .blank)
+
+-- a plain number is not live
+abbrev pub is-live-node : {N : Numbers} → Machine N → Operand N → Bool
+is-live-node M (plain x) = false
+is-live-node M (node h) = live M h
+
 -- the handles among some operands
 abbrev pub handles : {N : Numbers} → List (Operand N) → List Handle
 handles [] = []
 handles (plain x ∷ os) = handles os
 handles (node h ∷ os) = h ∷ handles os
+
+-- is one of them a plain number
+abbrev pub any-plain : {N : Numbers} → List (Operand N) → Bool
+any-plain [] = false
+any-plain (plain x ∷ os) = true
+any-plain (node h ∷ os) = any-plain os

@@ -1,15 +1,15 @@
 -- What is proved of every call and of every sequence of calls, over any numbers. A sequence hands on one state and one set of arrays, each call getting them as the call before left them.
 use Prim.Native.Nat.{ℕ, _+_, _≤_, _<_}
 use mathlib.Core.Path.{_≡_}
-use mathlib.Core.Bool.{Bool, true, false, _&&_}
-use mathlib.Core.List.{List, [], _∷_, map}
+use mathlib.Core.Bool.{true, false}
+use mathlib.Core.List.{List, [], _∷_}
 use mathlib.Core.Option.{Option, none, some}
-use lib.Dec.{leb, ltb}
-use lib.ListN.{getD, take, drop}
+use lib.ListN.{getD, take}
 use Rattle.tape.specs.Numbers.{Numbers, floats}
-use Rattle.tape.specs.Machine.{Arrays, Machine, machine, most-edges, slot, new-tape, all}
+use Rattle.tape.specs.Machine.{Arrays, Machine, machine, slot, new-tape}
 use Rattle.tape.specs.Handles.{Operand, node, live, worth}
 use Rattle.tape.specs.Operations.{Given}
+use Rattle.tape.specs.Walk.{sound}
 use Rattle.tape.specs.Answers.{Answer}
 use Rattle.tape.specs.Calls.{Move, Call, move, operate, step, run}
 use Rattle.tape.specs.declared.node.Handle.{Handle}
@@ -74,12 +74,6 @@ pub record Serials : Type 1 where
   pub never-repeat : {N : Numbers} (cs : List (Call N)) (M : Machine N) → Ascending (M .state .next) (serials (run cs M .0))
 
 -- ---- recording
-
--- node i as a walk needs it: at most two edges, and each child that they count is below i
-abbrev pub sound : {N : Numbers} → Arrays N → ℕ → Bool
-sound A i =
-    let k = getD (A .count) i 0 in
-    leb k most-edges && all (map (λ c. ltb c i) (take k (drop (slot i) (A .child))))
 
 -- two sets of arrays agree on the first n nodes
 pub record SameBelow {N : Numbers} (n : ℕ) (A B : Arrays N) : Type 0 where

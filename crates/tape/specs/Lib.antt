@@ -1,9 +1,11 @@
--- Document 01's machine. Read in this order: `Numbers`, `Machine`, `Handles`, `Operations`, `Answers`, `Calls`; `Kept` states what is proved of every sequence of calls.
+-- Document 01's machine. Read in this order: `Numbers`, `Machine`, `Handles`, `Operations`, `Walk`, `Listing`, `Answers`, `Calls`; `Kept` states what is proved of every sequence of calls.
 -- `declared` has the code's own structs and enums, as the checker reads them off src/.
 pub mod Numbers
 pub mod Machine
 pub mod Handles
 pub mod Operations
+pub mod Walk
+pub mod Listing
 pub mod Answers
 pub mod Calls
 pub mod Kept

@@ -1,6 +1,7 @@
 -- What a tape computes with. Everything below is stated over any such numbers, and no law of them is assumed; the tape of document 01 is over `floats`.
+use Prim.Native.Nat.{ℕ}
 use mathlib.Core.Bool.{Bool}
-use lib.Ieee.{Float, nan, binary64, ofBits, add, sub, mul, div, lt, le}
+use lib.Ieee.{Float, nan, binary64, ofBits, toBits, add, sub, mul, div, lt, le}
 
 pub record Numbers : Type 1 where
   pub Number : Type 0
@@ -15,10 +16,12 @@ pub record Numbers : Type 1 where
   pub at-most : Number → Number → Bool
   -- what is done to a partial before it is stored
   pub stored : Number → Number
+  -- the bit pattern by which a listing shows a number
+  pub bits : Number → ℕ
   -- what stands past the end of an array and of the operations table; no answer depends on it
   pub blank : Number
 
--- IEEE 754 binary64. `nought` is +0.0, `one` is 1.0, and a partial is stored as it is
+-- IEEE 754 binary64. `nought` is +0.0, `one` is 1.0, a partial is stored as it is, and any NaN has the bits 7ff8000000000000 (`toBits`)
 abbrev pub floats : Numbers
 floats = record {
   Number = Float;
@@ -31,5 +34,6 @@ floats = record {
   less = lt;
   at-most = le;
   stored = λ p. p;
+  bits = toBits binary64;
   blank = nan;
 }
