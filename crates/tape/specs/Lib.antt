@@ -9,3 +9,5 @@ pub mod Listing
 pub mod Answers
 pub mod Calls
 pub mod Kept
+pub mod Passes
+pub mod Rows

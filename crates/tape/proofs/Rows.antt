@@ -1,0 +1,60 @@
+-- Every row holds: both sides are computed.
+use mathlib.Core.Path.{refl}
+use lib.Ieee.{add, sub, mul, div, neg, lt, le, ofInt, ofBits, toBits}
+use Rattle.tape.specs.Calls.{step}
+use Rattle.tape.specs.Rows.{EveryRow}
+
+pub every-row : EveryRow
+unfolding step add sub mul div neg lt le ofInt ofBits toBits
+every-row = (
+  (refl, (refl, tt)),
+  (
+    (refl, (refl, tt)),
+    (
+      (refl, (refl, (refl, tt))),
+      (
+        (refl, (refl, tt)),
+        (
+          (refl, (refl, tt)),
+          (
+            (refl, (refl, (refl, tt))),
+            (
+              (refl, (refl, (refl, tt))),
+              (
+                (refl, (refl, tt)),
+                (
+                  (refl, (refl, tt)),
+                  (
+                    (refl, (refl, tt)),
+                    (
+                      (refl, (refl, tt)),
+                      (
+                        (refl, (refl, tt)),
+                        (
+                          (refl, (refl, tt)),
+                          (
+                            (refl, (refl, tt)),
+                            (
+                              (refl, (refl, tt)),
+                              (
+                                (refl, (refl, tt)),
+                                (
+                                  (refl, (refl, tt)),
+                                  ((refl, (refl, tt)), tt),
+                                ),
+                              ),
+                            ),
+                          ),
+                        ),
+                      ),
+                    ),
+                  ),
+                ),
+              ),
+            ),
+          ),
+        ),
+      ),
+    ),
+  ),
+)

@@ -1,0 +1,42 @@
+-- What is proved of the passes, over any numbers.
+use Prim.Native.Nat.{ℕ, _+_}
+use mathlib.Core.Path.{_≡_}
+use mathlib.Core.Bool.{true}
+use mathlib.Core.List.{List, [], _∷_, _++_, map}
+use lib.ListN.{length}
+use Rattle.tape.specs.Numbers.{Numbers}
+use Rattle.tape.specs.Machine.{Arrays, Machine, fits}
+use Rattle.tape.specs.Walk.{Edge, walk, sum}
+use Rattle.tape.specs.Answers.{Answer, counted}
+use Rattle.tape.specs.Calls.{move, reset-mark, Call, pass, propagate-to-mark, propagate-mark-to-start, step, run}
+use Rattle.tape.specs.Kept.{fresh, after}
+
+-- a pass without a root over an empty range changes nothing and counts 0. Proved in proofs/Passes.antt
+pub record EmptyRange : Type 1 where
+  pub to-start : {N : Numbers} (M : Machine N) → fits true M ≡ true → M .state .mark ≡ 0 → step (pass propagate-mark-to-start) M ≡ (counted 0, M)
+  pub to-mark : {N : Numbers} (M : Machine N) → fits true M ≡ true → M .state .mark ≡ M .state .length → step (pass propagate-to-mark) M ≡ (counted 0, M)
+
+-- none of these answers is a refusal
+abbrev pub Unrefused : {N : Numbers} → List (Answer N) → Type 0
+Unrefused [] = Unit {0}
+Unrefused (a ∷ rest) = (a .number ≡ 0) × Unrefused rest
+
+abbrev pub counts : {N : Numbers} → List (Answer N) → ℕ
+counts answers = sum (map (λ a. a .count) answers)
+
+-- from the end to the mark and then from the mark to the start is one walk of both ranges; with the mark at 0, a pass to the mark is that walk. Proved in proofs/Passes.antt
+abbrev pub in-two : (N : Numbers) → List (Call N)
+in-two N = pass propagate-to-mark ∷ pass propagate-mark-to-start ∷ []
+
+abbrev pub in-one : (N : Numbers) → List (Call N)
+in-one N = move reset-mark ∷ pass propagate-to-mark ∷ []
+
+pub record BothRanges : Type 1 where
+  pub of-nodes : {N : Numbers} (i : ℕ) (low high : List (List (Edge N))) (adjoints : List (N .Number)) → walk i (low ++ high) adjoints ≡ walk i low (walk (i + length low) high adjoints)
+  pub unrefused : {N : Numbers} (M : Machine N) → Unrefused (run (in-two N) M .0) → Unrefused (run (in-one N) M .0)
+  pub arrays : {N : Numbers} (M : Machine N) → Unrefused (run (in-two N) M .0) → after (in-one N) M .lent ≡ after (in-two N) M .lent
+  pub visits : {N : Numbers} (M : Machine N) → Unrefused (run (in-two N) M .0) → counts (run (in-one N) M .0) ≡ counts (run (in-two N) M .0)
+
+-- a tape that was written by these calls alone is never refused 7. Proved in proofs/Passes.antt
+pub record NeverUnsound : Type 1 where
+  pub never-refused-7 : {N : Numbers} (A : Arrays N) (before : List (Call N)) (c : Call N) → step c (after before (fresh A)) .0 .number ≡ 7 → ⊥

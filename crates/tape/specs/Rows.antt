@@ -1,0 +1,261 @@
+-- Worked rows: calls, what they have to answer, and what has to be seen on the tape after them. P1 to P8 are document 01's; the other rows shut out wrong rules that those would let through.
+-- `EveryRow` is proved in proofs/Rows.antt, by computation.
+use Prim.Native.Nat.{ℕ, _+_, _^_}
+use Prim.Native.String.{String}
+use mathlib.Core.Path.{_≡_}
+use mathlib.Core.Bool.{false}
+use mathlib.Core.List.{List, [], _∷_, _++_}
+use lib.IntN.{pos}
+use lib.Ieee.{Float, nan, inf, binary64, ofInt, neg}
+use lib.ListN.{replicate}
+use Rattle.tape.specs.Numbers.{floats}
+use Rattle.tape.specs.Machine.{Arrays, Machine, arrays, machine, slot}
+use Rattle.tape.specs.Handles.{Operand, plain, node}
+use Rattle.tape.specs.Operations.{Given}
+use Rattle.tape.specs.Listing.{bytes, listing}
+use Rattle.tape.specs.Answers.{Answer, refused, done, told, recorded, counted}
+use Rattle.tape.specs.Calls.{Call, move, start, set-mark, rewind-to-mark, operate, clear, pass, backward, backward-to-mark, backward-mark-to-start, propagate-to-mark, propagate-mark-to-start, value-of, adjoint-of, is-live, list, run}
+use Rattle.tape.specs.Kept.{fresh, after}
+use Rattle.tape.specs.declared.errors.Refusal.the-variants.{NotLive, Detached, UnsoundEdge, ListingTooLong}
+use Rattle.tape.specs.declared.node.Handle.{Handle}
+
+-- ---- what a row is
+
+-- what is to be seen on a tape: an array, whole, or the listing
+pub data Sight : Type 0 where
+  adjoints partials : List Float → Sight
+  edge-counts : List ℕ → Sight
+  lists : String → Sight
+
+abbrev pub Seen : Machine floats → Sight → Type 0
+Seen M (adjoints xs) = M .lent .adjoint ≡ xs
+Seen M (partials xs) = M .lent .partial ≡ xs
+Seen M (edge-counts ks) = M .lent .count ≡ ks
+Seen M (lists text) = listing M ≡ bytes text
+
+pub record Row : Type 0 where
+  pub before : Machine floats
+  pub calls : List (Call floats)
+  pub answers : List (Answer floats)
+  pub sights : List Sight
+
+abbrev pub AllSeen : Machine floats → List Sight → Type 0
+AllSeen M [] = Unit {0}
+AllSeen M (s ∷ ss) = Seen M s × AllSeen M ss
+
+abbrev pub Holds : Row → Type 0
+Holds r = (run (r .calls) (r .before) .0 ≡ r .answers) × AllSeen (after (r .calls) (r .before)) (r .sights)
+
+abbrev pub All : List Row → Type 0
+All [] = Unit {0}
+All (r ∷ rs) = Holds r × All rs
+
+-- ---- words for the rows
+
+-- the float of the whole number k
+abbrev pub float : ℕ → Float
+float k = ofInt binary64 (pos k)
+
+-- arrays for n nodes that hold nothing but sevens, so that what a call writes and what it leaves both show
+abbrev pub sevens : ℕ → Arrays floats
+sevens n = arrays (replicate n (float 7)) (replicate n (float 7)) (replicate n 7) (replicate n 7) (replicate (slot n) 7) (replicate (slot n) (float 7))
+
+abbrev pub handle : ℕ → ℕ → Handle
+handle i s = record { index = i; serial = s }
+
+-- node i of a tape that was started once and not rewound
+abbrev pub first : ℕ → Handle
+first i = handle i (i + 1)
+
+abbrev pub n : ℕ → Operand floats
+n i = node (first i)
+
+abbrev pub given : Float → Float → Float → Given floats
+given v p q = record { value = v; left = p; right = q }
+
+abbrev pub leaf : Float → Call floats
+leaf x = operate 0 (plain x) (plain x) (given x x x)
+
+abbrev pub binary : ℕ → Operand floats → Operand floats → Call floats
+binary op left right = operate op left right (given (float 0) (float 0) (float 0))
+
+abbrev pub plus : Operand floats → Operand floats → Call floats
+plus = binary 1
+
+abbrev pub times : Operand floats → Operand floats → Call floats
+times = binary 3
+
+abbrev pub max : Operand floats → Operand floats → Call floats
+max = binary 5
+
+-- operation 8 with partial p
+abbrev pub weighed : Operand floats → Float → Call floats
+weighed x p = operate 8 x x (given (float 1) p p)
+
+-- operation 9 with partials p and q
+abbrev pub weighed-twice : Operand floats → Operand floats → Float → Float → Call floats
+weighed-twice left right p q = operate 9 left right (given (float 1) p q)
+
+-- ---- the rows
+
+-- the listing's four nodes: leaves 3 and 2, their product, the product plus the first leaf, and backward from the last
+abbrev pub four-calls : List (Call floats)
+four-calls = move start ∷ leaf (float 3) ∷ leaf (float 2) ∷ times (n 0) (n 1) ∷ plus (n 2) (n 0) ∷ pass (backward (n 3)) ∷ []
+
+abbrev pub four-answers : List (Answer floats)
+four-answers = done ∷ recorded (float 3) (first 0) ∷ recorded (float 2) (first 1) ∷ recorded (float 6) (first 2) ∷ recorded (float 9) (first 3) ∷ counted 4 ∷ []
+
+abbrev pub four-adjoints : Sight
+four-adjoints = adjoints (float 3 ∷ float 3 ∷ float 1 ∷ float 1 ∷ float 7 ∷ [])
+
+-- further calls on the four nodes, of five that the tape has room for
+abbrev pub on-four : List (Call floats) → List (Answer floats) → List Sight → Row
+on-four calls answers sights = record { before = fresh (sevens 5); calls = four-calls ++ calls; answers = four-answers ++ answers; sights = sights }
+
+-- P1 without a root, mark 0 walked to start, or mark = length walked from the end: nothing changes, count 0
+abbrev pub P1-to-start : Row
+P1-to-start = on-four (pass propagate-mark-to-start ∷ []) (counted 0 ∷ []) (four-adjoints ∷ [])
+
+abbrev pub P1-to-mark : Row
+P1-to-mark = on-four (move set-mark ∷ pass propagate-to-mark ∷ []) (done ∷ counted 0 ∷ []) (four-adjoints ∷ [])
+
+-- P2 the listing's four nodes and adjoints; count 4
+abbrev pub P2 : Row
+P2 =
+    on-four
+    []
+    []
+    (four-adjoints
+    ∷ lists "nodes=4 mark=0 active=1\nnode=0 val=4008000000000000 adj=4008000000000000\nnode=1 val=4000000000000000 adj=4008000000000000\nnode=2 val=4018000000000000 adj=3ff0000000000000\nnode=3 val=4022000000000000 adj=3ff0000000000000\n"
+    ∷ [])
+
+-- P3 x*x at 3: adjoint 6, count 2. P4 backward again without clearing: 12
+abbrev pub squared : List (Call floats)
+squared = move start ∷ leaf (float 3) ∷ times (n 0) (n 0) ∷ pass (backward (n 1)) ∷ []
+
+abbrev pub squared-answers : List (Answer floats)
+squared-answers = done ∷ recorded (float 3) (first 0) ∷ recorded (float 9) (first 1) ∷ counted 2 ∷ []
+
+abbrev pub P3 : Row
+P3 = record { before = fresh (sevens 2); calls = squared; answers = squared-answers; sights = adjoints (float 6 ∷ float 1 ∷ []) ∷ [] }
+
+abbrev pub P4 : Row
+P4 = record { before = fresh (sevens 2); calls = squared ++ (pass (backward (n 1)) ∷ []); answers = squared-answers ++ (counted 2 ∷ []); sights = adjoints (float 12 ∷ float 1 ∷ []) ∷ [] }
+
+-- P5 plain 2 times plain 3, active: a node with no edge
+abbrev pub P5 : Row
+P5 = record {
+  before = fresh (sevens 1);
+  calls = move start ∷ times (plain (float 2)) (plain (float 3)) ∷ [];
+  answers = done ∷ recorded (float 6) (first 0) ∷ [];
+  sights = edge-counts (0 ∷ []) ∷ partials (float 7 ∷ float 7 ∷ []) ∷ [];
+}
+
+-- P6 max of two leaves at 1: value 1, both partials 0
+abbrev pub P6 : Row
+P6 = record {
+  before = fresh (sevens 3);
+  calls = move start ∷ leaf (float 1) ∷ leaf (float 1) ∷ max (n 0) (n 1) ∷ [];
+  answers = done ∷ recorded (float 1) (first 0) ∷ recorded (float 1) (first 1) ∷ recorded (float 1) (first 2) ∷ [];
+  sights = edge-counts (0 ∷ 0 ∷ 2 ∷ []) ∷ partials (float 7 ∷ float 7 ∷ float 7 ∷ float 7 ∷ float 0 ∷ float 0 ∷ []) ∷ [];
+}
+
+-- P7 mark form to start with a root at or past the mark: root adjoint 1, its edges not walked. The model is x and x*x, passed back once before; the mark stands at 2
+abbrev pub marked : Operand floats → List Sight → Row
+marked root sights = record {
+  before = fresh (sevens 4);
+  calls = squared ++ (move set-mark ∷ times (n 1) (n 0) ∷ plus (n 2) (n 0) ∷ pass (backward-mark-to-start root) ∷ []);
+  answers = squared-answers ++ (done ∷ recorded (float 27) (first 2) ∷ recorded (float 30) (first 3) ∷ counted 2 ∷ []);
+  sights = sights;
+}
+
+abbrev pub P7-at-the-mark : Row
+P7-at-the-mark = marked (n 2) (adjoints (float 12 ∷ float 1 ∷ float 1 ∷ float 0 ∷ []) ∷ [])
+
+abbrev pub P7-past-it : Row
+P7-past-it = marked (n 3) (adjoints (float 12 ∷ float 1 ∷ float 0 ∷ float 1 ∷ []) ∷ [])
+
+-- P8 rewind, then record at the same index: adjoint +0.0, the old handle refused 3, as operand, root and read
+abbrev pub P8 : Row
+P8 =
+    let old = node (handle 1 2) in
+    let new = node (handle 1 3) in
+    record {
+      before = fresh (sevens 2);
+      calls = move start ∷ leaf (float 3) ∷ move set-mark ∷ plus (n 0) (n 0) ∷ pass (backward old) ∷ is-live old ∷ move rewind-to-mark ∷ leaf (float 2)
+          ∷ adjoint-of new ∷ plus old (n 0) ∷ pass (backward old) ∷ value-of old ∷ adjoint-of old ∷ is-live old ∷ is-live new ∷ [];
+      answers = done ∷ recorded (float 3) (first 0) ∷ done ∷ recorded (float 6) (handle 1 2) ∷ counted 2 ∷ counted 1 ∷ done ∷ recorded (float 2) (handle 1 3)
+          ∷ told (float 0) ∷ refused NotLive ∷ refused NotLive ∷ refused NotLive ∷ refused NotLive ∷ counted 0 ∷ counted 1 ∷ [];
+      sights = adjoints (float 2 ∷ float 0 ∷ []) ∷ [];
+    }
+
+-- a root in the middle: what stands above it is not walked
+abbrev pub in-the-middle : Row
+in-the-middle = on-four (pass (backward (n 2)) ∷ []) (counted 2 ∷ []) (adjoints (float 5 ∷ float 6 ∷ float 1 ∷ float 1 ∷ float 7 ∷ []) ∷ [])
+
+-- to the mark with a root: the walk begins at the end, wherever the root lies, and stops at the mark
+abbrev pub to-the-mark : Row
+to-the-mark =
+    record {
+      before = fresh (sevens 4);
+      calls = squared ++ (move set-mark ∷ times (n 1) (n 0) ∷ plus (n 2) (n 0) ∷ pass (backward-to-mark (n 3)) ∷ pass (backward-to-mark (n 0)) ∷ []);
+      answers = squared-answers ++ (done ∷ recorded (float 27) (first 2) ∷ recorded (float 30) (first 3) ∷ counted 4 ∷ counted 4 ∷ []);
+      sights = adjoints (float 20 ∷ float 10 ∷ float 2 ∷ float 1 ∷ []) ∷ [];
+    }
+
+-- no edge is skipped for a zero adjoint: infinity times zero is no number
+abbrev pub zero-adjoint : Row
+zero-adjoint = record {
+  before = fresh (sevens 3);
+  calls = move start ∷ leaf (float 3) ∷ weighed (n 0) (inf false) ∷ leaf (float 2) ∷ pass (backward (n 2)) ∷ [];
+  answers = done ∷ recorded (float 3) (first 0) ∷ recorded (float 1) (first 1) ∷ recorded (float 2) (first 2) ∷ counted 1 ∷ [];
+  sights = adjoints (nan ∷ float 0 ∷ float 1 ∷ []) ∷ [];
+}
+
+-- left before right: (2^53 + 1) - 2^53 is 0 and (2^53 - 2^53) + 1 is 1
+abbrev pub left-first : Row
+left-first = record {
+  before = fresh (sevens 4);
+  calls = move start ∷ leaf (float 3) ∷ weighed-twice (n 0) (n 0) (float 1) (neg (float (2 ^ 53))) ∷ weighed (n 0) (float (2 ^ 53)) ∷ plus (n 1) (n 2) ∷ pass (backward (n 3)) ∷ [];
+  answers = done ∷ recorded (float 3) (first 0) ∷ recorded (float 1) (first 1) ∷ recorded (float 1) (first 2) ∷ recorded (float 2) (first 3) ∷ counted 5 ∷ [];
+  sights = adjoints (float 0 ∷ float 1 ∷ float 1 ∷ float 1 ∷ []) ∷ [];
+}
+
+-- clearing: +0.0 in each live adjoint, and nothing past the length
+abbrev pub clearing : Row
+clearing = on-four (clear ∷ []) (done ∷ []) (adjoints (float 0 ∷ float 0 ∷ float 0 ∷ float 0 ∷ float 7 ∷ []) ∷ [])
+
+-- plain numbers: read as they are, not live, and refused 4 as a root and where an adjoint is read
+abbrev pub plain-numbers : Row
+plain-numbers =
+    let x = plain (float 5) in
+    on-four
+    (value-of x ∷ is-live x ∷ adjoint-of x ∷ pass (backward x) ∷ pass (backward-to-mark x) ∷ pass (backward-mark-to-start x) ∷ value-of (n 2) ∷ adjoint-of (n 1) ∷ [])
+    (told (float 5) ∷ counted 0 ∷ refused Detached ∷ refused Detached ∷ refused Detached ∷ refused Detached ∷ told (float 6) ∷ told (float 3) ∷ [])
+    (four-adjoints ∷ [])
+
+-- a node that is its own child is refused 7 before the root's adjoint is set; a walk that does not reach it is not
+abbrev pub own-child : Row
+own-child = record {
+  before = machine (record { length = 3; mark = 1; active = false; next = 8 }) (arrays (replicate 3 (float 7)) (replicate 3 (float 7)) (7 ∷ 7 ∷ 7 ∷ []) (0 ∷ 1 ∷ 1 ∷ []) (replicate 4 1 ++ (0 ∷ 7 ∷ [])) (replicate 6 (float 1)));
+  calls = pass (backward (node (handle 2 7))) ∷ pass (backward-to-mark (node (handle 0 7))) ∷ pass propagate-to-mark ∷ pass (backward-mark-to-start (node (handle 2 7))) ∷ [];
+  answers = refused UnsoundEdge ∷ refused UnsoundEdge ∷ refused UnsoundEdge ∷ counted 0 ∷ [];
+  sights = adjoints (float 7 ∷ float 7 ∷ float 1 ∷ []) ∷ [];
+}
+
+-- any NaN is listed as 7ff8000000000000; 24 bytes of header and 49 of line do not fit 72
+abbrev pub listed-nan : Row
+listed-nan = record {
+  before = fresh (sevens 1);
+  calls = move start ∷ leaf nan ∷ list 72 ∷ list 73 ∷ [];
+  answers = done ∷ recorded nan (first 0) ∷ refused ListingTooLong ∷ counted 73 ∷ [];
+  sights = lists "nodes=1 mark=0 active=1\nnode=0 val=7ff8000000000000 adj=0000000000000000\n" ∷ [];
+}
+
+abbrev pub rows : List Row
+rows =
+    P1-to-start ∷ P1-to-mark ∷ P2 ∷ P3 ∷ P4 ∷ P5 ∷ P6 ∷ P7-at-the-mark ∷ P7-past-it ∷ P8
+    ∷ in-the-middle ∷ to-the-mark ∷ zero-adjoint ∷ left-first ∷ clearing ∷ plain-numbers ∷ own-child ∷ listed-nan ∷ []
+
+abbrev pub EveryRow : Type 0
+EveryRow = All rows
