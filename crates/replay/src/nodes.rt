@@ -21,7 +21,7 @@ pub const NO_CHILD: u16 = 0xffff;
 
 const NO_PARTIAL: f64 = 0.7;
 
-const NOTHING: Supplied = Supplied {
+pub const NOTHING: Supplied = Supplied {
     value: 0.0,
     left: 0.0,
     right: 0.0,

@@ -5,10 +5,10 @@ use Rattle.replay.proofs.kinds.name_length.Statement.{statement}
 use Rattle.replay.proofs.kinds.name_length.Tie as tie
 
 abbrev Inv-loop : tie.InvT-loop
-Inv-loop kind at₀ at = at ≤ 12
+Inv-loop kind at₀ at = at ≤ 24
 
 abbrev μ-loop : tie.MeasureT-loop
-μ-loop kind at₀ at = 12 - at
+μ-loop kind at₀ at = 24 - at
 
 pub name-length-spec : {M : Type 1} → statement M
 name-length-spec =
