@@ -187,13 +187,13 @@ fn is_sound(i: usize, count: &[u8], child: &[u16]) -> bool
     if MOST_EDGES < edges {
         return false;
     }
-    let first = MOST_EDGES * i;
-    let mut k = 0;
-    while k < edges {
-        if i <= child[first + k] as usize {
+    let end = MOST_EDGES * i + edges;
+    let mut slot = MOST_EDGES * i;
+    while slot < end {
+        if i <= child[slot] as usize {
             return false;
         }
-        k += 1;
+        slot += 1;
     }
     true
 }
