@@ -15,7 +15,6 @@ use Rattle.tape.specs.Answers.{Answer, number, done, counted}
 use Rattle.tape.specs.Calls.{reset-mark, Pass, backward, backward-to-mark, backward-mark-to-start, propagate-to-mark, propagate-mark-to-start, Call, move, operate, clear, pass, value-of, adjoint-of, is-live, list, moved, with-adjoints, plan, asked, any-stale, refusals, carried, step, run}
 use Rattle.tape.specs.Kept.{fresh, after}
 use Rattle.tape.specs.Passes.{EmptyRange, BothRanges, NeverUnsound, Unrefused, counts, in-one, in-two}
-use Rattle.tape.specs.declared.errors.Refusal.{Refusal}
 use Rattle.tape.specs.declared.errors.Refusal.the-variants.{UnsoundEdge}
 use Rattle.tape.proofs.OneToOne.{by-number, at-refusal, told}
 use Rattle.tape.proofs.Ranges.{length-indexes, indexes-cut, sum-append, all-append, all-below}
