@@ -1,3 +1,4 @@
 pub mod Loops
 pub mod OneToOne
+pub mod Plans
 pub mod Readings

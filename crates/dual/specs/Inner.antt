@@ -72,14 +72,14 @@ carried-out (planned.the-variants.Unrooted s) M = let P : Plan floats = record {
 
 -- ---- walks
 
--- node i's entries, and its edge slots, are there
+-- node i's entries are there, and its edge slots
 pub record EdgeRoom (i : ℕ) (counts children : List ℕ) : Type 0 where
+  pub small : i < 65535
   pub count : i < length counts
   pub child : slot i + 2 ≤ length children
 
 -- node i can be walked
 pub record NodeRoom (i : ℕ) (adjoints : List Float) (counts children : List ℕ) (partials : List Float) : Type 0 where
-  pub small : i < 65535
   pub adjoint : i < length adjoints
   pub edges : EdgeRoom i counts children
   pub partial : slot i + 2 ≤ length partials

@@ -1,13 +1,11 @@
 // The walk: the chain rule over a range of nodes, from the highest down.
 use crate::planning::Span;
 use tape::MOST_EDGES;
-ghost use Prim.Native.Nat.{_<_};
 ghost use mathlib.Core.Path.{_≡_};
-ghost use mathlib.Core.Bool.{true};
-ghost use lib.ListN.{length, getD};
+ghost use lib.ListN.{getD};
 ghost use lib.Ieee.{nan};
 ghost use Rattle.tape.specs.Walk.{push as Walk·push, edges-at};
-ghost use Rattle.dual.specs.Inner.{Walkable, EdgeRoom, NodeRoom, edge-arrays, sound-edges, walked-back, visits};
+ghost use Rattle.dual.specs.Inner.{Walkable, NodeRoom, edge-arrays, walked-back, visits};
 
 // Passes each node's adjoint to its children, and tells how many edges that were.
 pub(crate) fn walk(span: Span, adjoint: &mut [f64], count: &[u8], child: &[u16], partial: &[f64]) -> u32
@@ -33,9 +31,8 @@ fn push(i: usize, adjoint: &mut [f64], count: &[u8], child: &[u16], partial: &[f
         ≡ Walk·push (getD (now (adjoint .entry)) i nan) (edges-at (edge-arrays (now (count .entry)) (now (child .entry)) (now (partial .entry))) i) (now (adjoint .entry)) ⌝ }
 {
     let node_adjoint = adjoint[i];
-    let first = MOST_EDGES * i;
-    let end = first + count[i] as usize;
-    let mut slot = first;
+    let end = MOST_EDGES * i + count[i] as usize;
+    let mut slot = MOST_EDGES * i;
     while slot < end {
         let at = child[slot] as usize;
         adjoint[at] = adjoint[at] + partial[slot] * node_adjoint;

@@ -19,10 +19,9 @@ clear-first-spec =
     Inv-loop
     μ-loop
     (λ c. clearing _ _)
-    (λ c. ?)
-    (λ c. ?)
-    (λ c. ?)
-    (λ c. ?)
-    (λ c. ?)
-    (λ c. ?)
-    (λ c. ?))
+    (λ c. search needs)
+    (λ c. omega (arith, c .before .loop .inv .size))
+    (λ c. search needs) (λ c. search needs)
+    (λ c. cleared-one _ _ _ _ (c .before .loop .inv) (c .loop-test .taken))
+    (λ c. c .before .loop .inv .size)
+    (λ c. all-cleared _ _ _ _ (c .before .loop .inv) (c .loop-test .left) (c .before .before .pre)))

@@ -1,42 +1,19 @@
+-- The nodes that are left to be tested are sound exactly if all of them are.
+use Prim.Native.Nat.{_-_}
+use mathlib.Core.Path.{_≡_, refl, sym, _∙_}
+use denote.Ref.{now}
+use native.Mathlib.Omega.{arith}
+use borrow.Author.Tests.{not-true, not-false}
+use Rattle.dual.proofs.Loops.{sound-from, room-at, unsound-refused, sound-next, sound-done}
+use borrow.Author.Needs.{needs}
 use Rattle.dual.proofs.planning.is_sound_between.Statement.{statement}
 use Rattle.dual.proofs.planning.is_sound_between.Tie as tie
-use Rattle.dual.proofs.planning.is_sound_between.Reads as reads
-use Rattle.dual.proofs.planning.is_sound_between.Lts as lts
-use Rattle.dual.proofs.planning.is_sound.Reads as is-sound-reads
 
 abbrev Inv-loop : tie.InvT-loop
-Inv-loop span count child i₀ i = ?
+Inv-loop span count child i₀ i = sound-from count child i (span .end) ≡ sound-from count child i₀ (span .end)
 
 abbrev μ-loop : tie.MeasureT-loop
-μ-loop span count child i₀ i = ?
-
--- src/planning.rt:172:5
-loop-holds : tie.Need-loop-holds Inv-loop μ-loop
-loop-holds c = ?
-
--- src/planning.rt:173:13
-is-sound-requires : tie.Need-is-sound-requires Inv-loop μ-loop
-is-sound-requires c κs = ?
-
--- src/planning.rt:174:13
-returns : tie.Need-returns Inv-loop μ-loop
-returns c = ?
-
--- src/planning.rt:176:9
-add-i : tie.Need-add-i Inv-loop μ-loop
-add-i c = ?
-
--- src/planning.rt:172:5
-loop-less : tie.Need-loop-less Inv-loop μ-loop
-loop-less c = ?
-
--- src/planning.rt:172:5
-loop-again : tie.Need-loop-again Inv-loop μ-loop
-loop-again c = ?
-
--- src/planning.rt:167:1
-returns-2 : tie.Need-returns-2 Inv-loop μ-loop
-returns-2 c = ?
+μ-loop span count child i₀ i = span .end - i
 
 pub is-sound-between-spec : {M : Type 1} → statement M
 is-sound-between-spec =
@@ -44,10 +21,10 @@ is-sound-between-spec =
     (tie.spec
     Inv-loop
     μ-loop
-    loop-holds
-    is-sound-requires
-    returns
-    add-i
-    loop-less
-    loop-again
-    returns-2)
+    (λ c. refl)
+    (λ c κs. room-at (c .before .before .before .before .before .args .span) _ _ _ (c .before .before .before .before .before .pre) (c .if1 .taken))
+    (λ c. sym (sym (c .before .before .before .before .loop .inv) ∙ unsound-refused (now (c .before .before .before .before .before .before .before .args .count)) (now (c .before .before .before .before .before .before .before .args .child)) _ _ (c .before .before .if1 .taken) (sym (c .before .is-sound .ensures) ∙ not-true (c .before .is-sound .result) (c .if2 .taken))))
+    (λ c. omega (arith, c .before .before .before .before .before .before .before .pre .small, c .before .before .if1 .taken))
+    (λ c. omega (arith, c .before .before .if1 .taken))
+    (λ c. sym (sound-next (now (c .before .before .before .before .before .before .before .args .count)) (now (c .before .before .before .before .before .before .before .args .child)) _ _ (c .before .before .if1 .taken) (sym (c .before .is-sound .ensures) ∙ not-false (c .before .is-sound .result) (c .if2 .left))) ∙ c .before .before .before .before .loop .inv)
+    (λ c. sym (sym (c .before .before .loop .inv) ∙ sound-done (now (c .before .before .before .before .before .args .count)) (now (c .before .before .before .before .before .args .child)) _ _ (c .if1 .left))))

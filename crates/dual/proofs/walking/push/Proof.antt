@@ -1,97 +1,17 @@
+-- What is left to be pushed (`Pushing`).
+use Prim.Native.Nat.{_-_}
+use native.Mathlib.Omega.{arith}
+use denote.Ref.{now}
+use Rattle.dual.proofs.Loops.{Pushing, pushing, child-below, pushed-one, all-pushed}
+use borrow.Author.Needs.{needs}
 use Rattle.dual.proofs.walking.push.Statement.{statement}
 use Rattle.dual.proofs.walking.push.Tie as tie
-use Rattle.dual.proofs.walking.push.Reads as reads
-use Rattle.dual.proofs.walking.push.Lts as lts
 
 abbrev Inv-loop : tie.InvT-loop
-Inv-loop i adjoint₀ count child partial node-adjoint first end slot₀ adjoint slot = ?
+Inv-loop i adjoint₀ count child partial node-adjoint end slot₀ adjoint slot = Pushing i child partial node-adjoint slot₀ end adjoint₀ slot adjoint
 
 abbrev μ-loop : tie.MeasureT-loop
-μ-loop i adjoint₀ count child partial node-adjoint first end slot₀ adjoint slot = ?
-
--- src/walking.rt:35:24
-mul-node-adjoint : tie.Need-mul-node-adjoint Inv-loop μ-loop
-mul-node-adjoint c = ?
-
--- src/walking.rt:35:24
-slice-read-node-adjoint : tie.Need-slice-read-node-adjoint Inv-loop μ-loop
-slice-read-node-adjoint c = ?
-
--- src/walking.rt:36:17
-mul-first : tie.Need-mul-first Inv-loop μ-loop
-mul-first c = ?
-
--- src/walking.rt:37:23
-shared-slice-read-end : tie.Need-shared-slice-read-end Inv-loop μ-loop
-shared-slice-read-end c = ?
-
--- src/walking.rt:37:23
-cast-end : tie.Need-cast-end Inv-loop μ-loop
-cast-end c = ?
-
--- src/walking.rt:37:15
-add-end : tie.Need-add-end Inv-loop μ-loop
-add-end c = ?
-
--- src/walking.rt:39:5
-loop-holds : tie.Need-loop-holds Inv-loop μ-loop
-loop-holds c = ?
-
--- src/walking.rt:40:18
-mul-at : tie.Need-mul-at Inv-loop μ-loop
-mul-at c = ?
-
--- src/walking.rt:40:18
-shared-slice-read-at : tie.Need-shared-slice-read-at Inv-loop μ-loop
-shared-slice-read-at c = ?
-
--- src/walking.rt:40:18
-cast-at : tie.Need-cast-at Inv-loop μ-loop
-cast-at c = ?
-
--- src/walking.rt:41:23
-mul-adjoint : tie.Need-mul-adjoint Inv-loop μ-loop
-mul-adjoint c = ?
-
--- src/walking.rt:41:23
-slice-read-adjoint : tie.Need-slice-read-adjoint Inv-loop μ-loop
-slice-read-adjoint c = ?
-
--- src/walking.rt:41:37
-mul-adjoint-2 : tie.Need-mul-adjoint-2 Inv-loop μ-loop
-mul-adjoint-2 c = ?
-
--- src/walking.rt:41:37
-shared-slice-read-adjoint : tie.Need-shared-slice-read-adjoint Inv-loop μ-loop
-shared-slice-read-adjoint c = ?
-
--- src/walking.rt:41:9
-mul-adjoint-3 : tie.Need-mul-adjoint-3 Inv-loop μ-loop
-mul-adjoint-3 c = ?
-
--- src/walking.rt:41:9
-slice-write-adjoint : tie.Need-slice-write-adjoint Inv-loop μ-loop
-slice-write-adjoint c = ?
-
--- src/walking.rt:42:9
-add-slot : tie.Need-add-slot Inv-loop μ-loop
-add-slot c = ?
-
--- src/walking.rt:39:5
-loop-less : tie.Need-loop-less Inv-loop μ-loop
-loop-less c = ?
-
--- src/walking.rt:39:5
-loop-again : tie.Need-loop-again Inv-loop μ-loop
-loop-again c = ?
-
--- src/walking.rt:29:1
-same-length : tie.Need-same-length Inv-loop μ-loop
-same-length c = ?
-
--- src/walking.rt:29:1
-returns : tie.Need-returns Inv-loop μ-loop
-returns c = ?
+μ-loop i adjoint₀ count child partial node-adjoint end slot₀ adjoint slot = end - slot
 
 pub push-spec : {M : Type 1} → statement M
 push-spec =
@@ -99,24 +19,25 @@ push-spec =
     (tie.spec
     Inv-loop
     μ-loop
-    mul-node-adjoint
-    slice-read-node-adjoint
-    mul-first
-    shared-slice-read-end
-    cast-end
-    add-end
-    loop-holds
-    mul-at
-    shared-slice-read-at
-    cast-at
-    mul-adjoint
-    slice-read-adjoint
-    mul-adjoint-2
-    shared-slice-read-adjoint
-    mul-adjoint-3
-    slice-write-adjoint
-    add-slot
-    loop-less
-    loop-again
-    same-length
-    returns)
+    (λ c. omega (arith, c .pre .edges .small))
+    (λ c. c .before .pre .adjoint)
+    (λ c. omega (arith, c .before .pre .edges .small))
+    (λ c. c .before .before .pre .edges .count)
+    (λ c. omega (arith, c .shared-slice-known .given (c .before .before .args .i)))
+    (λ c. omega (arith, c .before .before .pre .edges .small, c .shared-slice-known .given (c .before .before .args .i)))
+    (λ c. omega (arith, c .before .before .pre .edges .small))
+    (λ c. pushing _ _ _ _ _ _ (c .before .before .pre))
+    (λ c. omega (arith, c .before .loop .inv .small, c .loop-test .taken))
+    (λ c. omega (arith, c .before .before .loop .inv .children-held, c .before .loop-test .taken))
+    (λ c. omega (arith, c .shared-slice-known2 .given (c .before .before .loop .slot)))
+    (λ c. omega (arith, c .shared-slice-known2 .given (c .before .before .loop .slot)))
+    (λ c. omega (arith, child-below _ _ _ _ _ _ _ _ _ (c .before .before .before .loop .inv) (c .before .before .loop-test .taken), c .before .before .before .loop .inv .node))
+    (λ c. omega (arith, c .before .before .before .loop .inv .small, c .before .before .loop-test .taken))
+    (λ c. omega (arith, c .before .before .before .before .loop .inv .partials-held, c .before .before .before .loop-test .taken))
+    (λ c. omega (arith, c .before .before .shared-slice-known2 .given (c .before .before .before .before .loop .slot)))
+    (λ c. omega (arith, child-below _ _ _ _ _ _ _ _ _ (c .before .before .before .before .loop .inv) (c .before .before .before .loop-test .taken), c .before .before .before .before .loop .inv .node))
+    (λ c. omega (arith, c .before .before .before .before .loop .inv .small, c .before .before .before .loop-test .taken))
+    (λ c. search needs)
+    (λ c. pushed-one _ _ _ _ _ _ _ _ _ (c .before .before .before .before .loop .inv) (c .before .before .before .loop-test .taken))
+    (λ c. c .before .loop .inv .size)
+    (λ c. all-pushed (c .before .before .before .before .args .i) (now (c .before .before .before .before .args .count)) _ _ _ _ _ _ (c .before .loop .inv) (c .loop-test .left)))
