@@ -2,3 +2,4 @@ pub mod Loops
 pub mod OneToOne
 pub mod Plans
 pub mod Readings
+pub mod Walks

@@ -5,9 +5,11 @@ use tape::Operand;
 use tape::Refusal;
 use tape::Tape;
 ghost use mathlib.Core.Path.{_≡_};
-ghost use mathlib.Core.List.{[]};
+ghost use Prim.Native.Nat.{ℕ};
+ghost use mathlib.Core.List.{List};
+ghost use lib.Ieee.{Float};
 ghost use Rattle.tape.specs.Numbers.{floats};
-ghost use Rattle.tape.specs.Machine.{arrays, machine, new-tape};
+ghost use Rattle.tape.specs.Machine.{arrays, machine};
 ghost use Rattle.tape.specs.Handles.{operand};
 ghost use Rattle.tape.specs.Calls.{step, pass, backward, backward-to-mark, backward-mark-to-start, propagate-to-mark, propagate-mark-to-start};
 ghost use Rattle.dual.specs.Outcome.{passed-back};
@@ -186,11 +188,18 @@ fn run(
     carry_out(planned, adjoint, count, child, partial)
 }
 
-fn carry_out(planned: Planned, adjoint: &mut [f64], count: &[u8], child: &[u16], partial: &[f64]) -> Passed
+// Walks as planned, whatever state, values and serials the caller keeps beside these arrays.
+fn carry_out(
+    planned: Planned,
+    adjoint: &mut [f64],
+    count: &[u8],
+    child: &[u16],
+    partial: &[f64],
+) -> Passed
     requires { ⌜ Ready planned (now adjoint) (now count) (now child) (now partial) ⌝ }
-    ensures { λ x. ⌜
-        passed-back x (machine new-tape (arrays {N = floats} [] (now (adjoint .exit)) [] (now (count .entry)) (now (child .entry)) (now (partial .entry))))
-        ≡ carried-out planned (machine new-tape (arrays [] (now (adjoint .entry)) [] (now (count .entry)) (now (child .entry)) (now (partial .entry)))) ⌝ }
+    ensures { λ x. ⌜ ((t : Tape) (v : List Float) (s : List ℕ)
+        → passed-back x (machine t (arrays {N = floats} v (now (adjoint .exit)) s (now (count .entry)) (now (child .entry)) (now (partial .entry))))
+        ≡ carried-out planned (machine t (arrays v (now (adjoint .entry)) s (now (count .entry)) (now (child .entry)) (now (partial .entry))))) ⌝ }
 {
     match planned {
         Planned::Refused(refusal) => Passed::Refused(refusal),

@@ -8,7 +8,13 @@ ghost use Rattle.tape.specs.Walk.{push as Walk·push, edges-at};
 ghost use Rattle.dual.specs.Inner.{Walkable, NodeRoom, edge-arrays, walked-back, visits};
 
 // Passes each node's adjoint to its children, and tells how many edges that were.
-pub(crate) fn walk(span: Span, adjoint: &mut [f64], count: &[u8], child: &[u16], partial: &[f64]) -> u32
+pub(crate) fn walk(
+    span: Span,
+    adjoint: &mut [f64],
+    count: &[u8],
+    child: &[u16],
+    partial: &[f64],
+) -> u32
     requires { ⌜ Walkable span (now adjoint) (now count) (now child) (now partial) ⌝ }
     ensures { λ _. ⌜ now (adjoint .exit) ≡ walked-back span (now (count .entry)) (now (child .entry)) (now (partial .entry)) (now (adjoint .entry)) ⌝ }
     ensures { λ x. ⌜ x ≡ visits span (now (count .entry)) ⌝ }

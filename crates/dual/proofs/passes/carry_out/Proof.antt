@@ -1,71 +1,25 @@
+-- The plan's case (proofs/Walks.antt).
+use mathlib.Core.Path.{_∙_}
+use denote.Ref.{now}
+use lib.ListN.{length-set}
+use Rattle.tape.specs.Numbers.{floats}
+use Rattle.dual.proofs.Walks.{refused-so, unrooted-ready, unrooted-so, rooted-below, rooted-ready, rooted-so}
 use borrow.Author.Needs.{needs}
 use Rattle.dual.proofs.passes.carry_out.Statement.{statement}
 use Rattle.dual.proofs.passes.carry_out.Tie as tie
-use Rattle.dual.proofs.passes.carry_out.Reads as reads
-use Rattle.dual.proofs.passes.carry_out.Lts as lts
-use Rattle.dual.proofs.walking.walk.Reads as walk-reads
-
--- src/passes.rt:196:26
-enum-known-planned : tie.Need-enum-known-planned
-enum-known-planned c = search needs
-
--- src/passes.rt:197:27
-enum-known-planned-2 : tie.Need-enum-known-planned-2
-enum-known-planned-2 c = search needs
-
--- src/passes.rt:198:29
-walk-requires : tie.Need-walk-requires
-walk-requires c κs = ?
-
--- src/passes.rt:200:25
-enum-known-planned-3 : tie.Need-enum-known-planned-3
-enum-known-planned-3 c = search needs
-
--- src/passes.rt:202:13
-mul-adjoint : tie.Need-mul-adjoint
-mul-adjoint c = ?
-
--- src/passes.rt:202:13
-slice-write-adjoint : tie.Need-slice-write-adjoint
-slice-write-adjoint c = ?
-
--- src/passes.rt:203:29
-walk-requires-2 : tie.Need-walk-requires-2
-walk-requires-2 c κs = ?
-
--- src/passes.rt:189:1
-returns : tie.Need-returns
-returns c = ?
-
--- src/passes.rt:189:1
-same-length : tie.Need-same-length
-same-length c = search needs
-
--- src/passes.rt:189:1
-returns-2 : tie.Need-returns-2
-returns-2 c = ?
-
--- src/passes.rt:189:1
-same-length-2 : tie.Need-same-length-2
-same-length-2 c = ?
-
--- src/passes.rt:189:1
-returns-3 : tie.Need-returns-3
-returns-3 c = ?
 
 pub carry-out-spec : {M : Type 1} → statement M
 carry-out-spec =
     tie.close
     (tie.spec
-    enum-known-planned
-    enum-known-planned-2
-    walk-requires
-    enum-known-planned-3
-    mul-adjoint
-    slice-write-adjoint
-    walk-requires-2
-    returns
-    same-length
-    returns-2
-    same-length-2
-    returns-3)
+    (λ c. search needs) (λ c. search needs)
+    (λ c κs. unrooted-ready _ (now (c .before .before .before .before .before .before .before .before .args .adjoint)) (now (c .before .before .before .before .before .before .before .before .args .count)) (now (c .before .before .before .before .before .before .before .before .args .child)) (now (c .before .before .before .before .before .before .before .before .args .partial)) _ (c .before .before .planned2 .given .1) (c .before .before .before .before .before .before .before .before .pre))
+    (λ c. search needs)
+    (λ c. let b = rooted-below _ (now (c .before .before .before .before .before .before .before .args .adjoint)) (now (c .before .before .before .before .before .before .before .args .count)) (now (c .before .before .before .before .before .before .before .args .child)) (now (c .before .before .before .before .before .before .before .args .partial)) _ _ (c .before .planned3 .given .1) (c .before .before .before .before .before .before .before .pre) in search needs)
+    (λ c. rooted-below _ (now (c .before .before .before .before .before .before .before .args .adjoint)) (now (c .before .before .before .before .before .before .before .args .count)) (now (c .before .before .before .before .before .before .before .args .child)) (now (c .before .before .before .before .before .before .before .args .partial)) _ _ (c .before .planned3 .given .1) (c .before .before .before .before .before .before .before .pre))
+    (λ c κs. rooted-ready _ (now (c .before .before .before .before .before .before .before .before .args .adjoint)) (now (c .before .before .before .before .before .before .before .before .args .count)) (now (c .before .before .before .before .before .before .before .before .args .child)) (now (c .before .before .before .before .before .before .before .before .args .partial)) _ _ (c .before .before .planned3 .given .1) (c .before .before .before .before .before .before .before .before .pre))
+    (λ c. refused-so _ (now (c .before .before .before .before .before .before .before .args .adjoint)) (now (c .before .before .before .before .before .before .before .args .count)) (now (c .before .before .before .before .before .before .before .args .child)) (now (c .before .before .before .before .before .before .before .args .partial)) _ (c .before .planned .given .1))
+    (λ c. search needs)
+    (λ c. unrooted-so _ (now (c .before .before .before .before .before .before .before .before .before .before .before .args .adjoint)) (now (c .before .before .before .before .before .before .before .before .before .before .before .args .count)) (now (c .before .before .before .before .before .before .before .before .before .before .before .args .child)) (now (c .before .before .before .before .before .before .before .before .before .before .before .args .partial)) _ (c .before .before .before .before .before .planned2 .given .1) _ _ (c .before .before .walk .ensures .0) (c .before .before .walk .ensures .1))
+    (λ c. c .before .before .walk2 .kept .1 .0 ∙ length-set (now (c .before .before .before .before .before .before .before .before .before .before .before .args .adjoint)) (c .before .before .before .before .before .planned3 .given .0 .0 .index) (floats .one))
+    (λ c. rooted-so _ (now (c .before .before .before .before .before .before .before .before .before .before .before .args .adjoint)) (now (c .before .before .before .before .before .before .before .before .before .before .before .args .count)) (now (c .before .before .before .before .before .before .before .before .before .before .before .args .child)) (now (c .before .before .before .before .before .before .before .before .before .before .before .args .partial)) _ _ (c .before .before .before .before .before .planned3 .given .1) _ _ (c .before .before .walk2 .ensures .0) (c .before .before .walk2 .ensures .1)))
