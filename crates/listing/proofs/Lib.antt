@@ -1,2 +1,4 @@
-pub mod Stores
+pub mod Listed
+pub mod Lines
 pub mod Numerals
+pub mod Stores

@@ -3,8 +3,10 @@ use Prim.Native.Nat.{ℕ, zero, suc, _+_, _/_, _^_, _≤_, _<_}
 use native.Mathlib.Omega.{arith}
 use mathlib.Core.Path.{_≡_, refl, sym, ap, _∙_}
 use borrow.Author.Tests.{lt-ltb, le-ltb}
+use lib.Dec.{ltb}
 use lib.ListN.{length, length-append}
-use Rattle.tape.specs.Listing.{digit, digits, places, hex, decimal}
+use Rattle.tape.specs.Listing.{digits, places, hex, decimal}
+use Rattle.tape.proofs.Tests.{by-test}
 
 pub length-digits : (b k n : ℕ) → length (digits b k n) ≡ k
 length-digits b zero n = refl
@@ -43,3 +45,10 @@ one-place (suc k) n h = rw (lt-ltb n 10 h)
 
 pub all-counted : {n found rest : ℕ} → Counted n found rest → rest < 10 → found ≡ length (decimal n)
 all-counted {n} {found} {rest} c h = omega (arith, length-digits 10 (places 19 n) n, one-place (c .more) rest h)
+
+places-few : (k n : ℕ) → places k n ≤ 1 + k
+places-few zero n = omega arith
+places-few (suc k) n = by-test (λ m. m ≤ 1 + suc k) (ltb n 10) (λ _. omega arith) (λ _. omega (arith, places-few k (n / 10)))
+
+pub decimal-short : (n : ℕ) → length (decimal n) ≤ 20
+decimal-short n = omega (arith, length-digits 10 (places 19 n) n, places-few 19 n)

@@ -1,0 +1,68 @@
+-- Part by part; the parts' lengths add up.
+use Prim.Native.Nat.{ℕ}
+use native.Mathlib.Omega.{arith}
+use mathlib.Core.Path.{_≡_, ap, _∙_}
+use mathlib.Core.Bool.{Bool}
+use mathlib.Core.List.{List, _++_}
+use mir.Val.{boolByte}
+use borrow.Author.Needs.{needs}
+use lib.ListN.{length}
+use Rattle.tape.specs.Listing.{bytes, decimal, header}
+use Rattle.tape.specs.declared.state.Tape.{Tape}
+use Rattle.listing.specs.Inner.{Wrote}
+use Rattle.listing.proofs.Lines.{flag, one-digit, header-length}
+use Rattle.listing.proofs.Stores.{then, then-two}
+use Rattle.listing.proofs.listing.write_header.Statement.{statement}
+use Rattle.listing.proofs.listing.write_header.Tie as tie
+
+flag-length : (b : Bool) → length (decimal (boolByte b)) ≡ 1
+flag-length b = rw (flag b) (one-digit b)
+
+write-labelled-decimal-requires : tie.Need-write-labelled-decimal-requires
+write-labelled-decimal-requires c κs = omega (arith, header-length (c .before .before .before .args .tape))
+
+write-labelled-decimal-requires-2 : tie.Need-write-labelled-decimal-requires-2
+write-labelled-decimal-requires-2 c κs = let first = c .before .before .before .before in omega (arith, header-length (first .before .before .before .before .args .tape))
+
+write-labelled-decimal-requires-3 : tie.Need-write-labelled-decimal-requires-3
+write-labelled-decimal-requires-3 c κs =
+    let second = c .before .before .before .before .before in
+    let first = second .before .before .before .before .before in
+    let tape = first .before .before .before .before .args .tape in
+    omega (arith, header-length tape, flag-length (tape .active))
+
+write-text-requires : tie.Need-write-text-requires
+write-text-requires c κs =
+    let third = c .before .before .before .before in
+    let second = third .before .before .before .before .before .before in
+    let first = second .before .before .before .before .before in
+    let tape = first .before .before .before .before .args .tape in
+    omega (arith, header-length tape, flag-length (tape .active))
+
+header-parts : (t : Tape) {l m n o q : List ℕ} {i j k p r : ℕ}
+    → Wrote l i (bytes "nodes=" ++ decimal (t .length)) m j → Wrote m j (bytes " mark=" ++ decimal (t .mark)) n k → Wrote n k (bytes " active=" ++ decimal (boolByte (t .active))) o p → Wrote o p (bytes "\n") q r
+    → Wrote l i (header t) q r
+header-parts t w x y z = rw (← flag (t .active)) (then (then-two (then-two w (bytes " mark=") _ x) (bytes " active=") _ y) z)
+
+returns : tie.Need-returns
+returns c =
+    let text = c .before .before in
+    let third = text .before .before .before .before .before in
+    let second = third .before .before .before .before .before .before in
+    let first = second .before .before .before .before .before in
+    header-parts (first .before .before .before .before .args .tape) (first .write-labelled-decimal .ensures) (second .write-labelled-decimal2 .ensures) (third .write-labelled-decimal3 .ensures) (text .write-text .ensures)
+
+pub write-header-spec : {M : Type 1} → statement M
+write-header-spec =
+    tie.close
+    (tie.spec
+    (λ c. search needs)
+    write-labelled-decimal-requires
+    (λ c. search needs)
+    write-labelled-decimal-requires-2
+    (λ c. search needs) (λ c. search needs)
+    write-labelled-decimal-requires-3
+    (λ c. search needs)
+    write-text-requires
+    (λ c. search needs)
+    returns)

@@ -1,0 +1,62 @@
+-- Part by part; the parts' lengths add up.
+use Prim.Native.Nat.{ℕ, _≤_, _+_}
+use native.Mathlib.Omega.{arith}
+use mathlib.Core.Path.{_≡_}
+use mathlib.Core.List.{List, _++_}
+use borrow.Author.Needs.{needs}
+use denote.Ref.{now}
+use lib.Ieee.{binary64, toBits}
+use lib.ListN.{length}
+use Rattle.tape.specs.Listing.{bytes, hex, decimal, line}
+use Rattle.listing.specs.Inner.{Wrote, shown}
+use Rattle.listing.proofs.Lines.{line-length}
+use Rattle.listing.proofs.Numerals.{length-hex}
+use Rattle.listing.proofs.Stores.{then, then-two}
+use Rattle.listing.proofs.listing.write_line.Statement.{statement}
+use Rattle.listing.proofs.listing.write_line.Tie as tie
+
+long : (c : tie.Start) → length (line (shown (now (c .args .value)) (now (c .args .adjoint))) (c .args .i)) ≡ 48 + length (decimal (c .args .i))
+long c = line-length (shown (now (c .args .value)) (now (c .args .adjoint))) (c .args .i)
+
+abbrev start : tie.After-write-labelled-decimal → tie.Start
+start c = c .before .before .before .before .before .before
+
+abbrev first : tie.After-write-labelled-bits → tie.After-write-labelled-decimal
+first c = c .before .before .before .before .before .before
+
+abbrev second : tie.After-write-labelled-bits2 → tie.After-write-labelled-bits
+second c = c .before .before .before .before .before .before
+
+write-labelled-decimal-requires : tie.Need-write-labelled-decimal-requires
+write-labelled-decimal-requires c κs = omega (arith, long (c .before .before .before .before .before))
+
+write-labelled-bits-requires : tie.Need-write-labelled-bits-requires
+write-labelled-bits-requires c κs = omega (arith, long (start (c .before .before .before .before .before)))
+
+write-labelled-bits-requires-2 : tie.Need-write-labelled-bits-requires-2
+write-labelled-bits-requires-2 c κs = omega (arith, long (start (first (c .before .before .before .before .before))))
+
+write-text-requires : tie.Need-write-text-requires
+write-text-requires c κs = omega (arith, long (start (first (second (c .before .before .before .before)))))
+
+returns : tie.Need-returns
+returns c =
+    let text = c .before .before in
+    let third = text .before .before .before .before .before in
+    let one = first (second third) .write-labelled-decimal .ensures in
+    then (then-two (then-two one (bytes " val=") _ (second third .write-labelled-bits .ensures)) (bytes " adj=") _ (third .write-labelled-bits2 .ensures)) (text .write-text .ensures)
+
+pub write-line-spec : {M : Type 1} → statement M
+write-line-spec =
+    tie.close
+    (tie.spec
+    (λ c. search needs)
+    write-labelled-decimal-requires
+    (λ c. search needs) (λ c. search needs) (λ c. search needs)
+    write-labelled-bits-requires
+    (λ c. search needs) (λ c. search needs) (λ c. search needs)
+    write-labelled-bits-requires-2
+    (λ c. search needs)
+    write-text-requires
+    (λ c. search needs)
+    returns)
