@@ -1,6 +1,6 @@
-pub mod Listed
-pub mod Lines
-pub mod Numerals
-pub mod OneToOne
 pub mod Rows
+pub mod OneToOne
 pub mod Stores
+pub mod Numerals
+pub mod Lines
+pub mod Written

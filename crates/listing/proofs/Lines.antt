@@ -5,21 +5,15 @@ use mathlib.Core.Path.{_≡_, refl, ap, _∙_}
 use mathlib.Core.Bool.{Bool, true, false, cond}
 use mathlib.Core.List.{List, [], _∷_, _++_}
 use lib.ListN.{length, length-append}
-use mir.Val.{boolByte}
 use Rattle.tape.specs.Numbers.{floats}
 use Rattle.tape.specs.Machine.{Arrays, machine}
 use Rattle.tape.specs.Walk.{indexes}
-use Rattle.tape.specs.Listing.{places, decimal, header, line, lines, listing}
+use Rattle.tape.specs.Listing.{decimal, header, line, lines, listing}
 use Rattle.tape.specs.declared.state.Tape.{Tape}
 use Rattle.listing.specs.Inner.{shown}
 use Rattle.listing.proofs.Numerals.{length-hex, decimal-short}
 
--- the active flag, as the code casts it
-pub flag : (b : Bool) → boolByte b ≡ cond b 1 0
-flag true = refl
-flag false = refl
-
-pub one-digit : (b : Bool) → length (decimal (cond b 1 0)) ≡ 1
+one-digit : (b : Bool) → length (decimal (cond b 1 0)) ≡ 1
 one-digit true = refl
 one-digit false = refl
 

@@ -7,12 +7,14 @@ ghost use lib.Seq.{sets};
 ghost use Rattle.tape.specs.Listing.{digit, digits, hex, decimal};
 ghost use Rattle.listing.specs.Inner.{Wrote};
 
-// Writes the 16 hex digits of a pattern.
+pub(crate) const HEX_DIGITS: usize = 16;
+
+// Writes the hex digits of a pattern.
 pub(crate) fn write_hex(out: &mut [u8], at: usize, bits: u64)
     requires { ⌜ at + 16 ≤ length (now out) ⌝ }
     ensures { λ _. ⌜ now (out .exit) ≡ sets (now (out .entry)) at (hex bits) ⌝ }
 {
-    write_digits(out, at, bits, 16, 16);
+    write_digits(out, at, bits, 16, HEX_DIGITS);
 }
 
 // Writes n with no leading zero, and answers the place behind it.

@@ -1,4 +1,5 @@
 // Writes the listing into lent bytes. Whether it fits is settled before any byte is written.
+use crate::digits::HEX_DIGITS;
 use tape::Refusal;
 use tape::Tape;
 ghost use Prim.Native.Nat.{_+_, _≤_, _<_};
@@ -44,9 +45,11 @@ pub fn list(
     Listed::Written(write_lines(out, at, tape.length, value, adjoint))
 }
 
-// The bytes of the header beside its two numbers, and of a line beside its index.
-const HEADER_BYTES: usize = 22;
-const LINE_BYTES: usize = 48;
+// Beside its two numbers the header has three labels, the flag and a line feed.
+const HEADER_BYTES: usize = 6 + 6 + 8 + 1 + 1;
+
+// Beside its index a line has three labels, two patterns and a line feed.
+const LINE_BYTES: usize = 5 + 5 + 5 + 2 * HEX_DIGITS + 1;
 
 fn listing_length(tape: Tape) -> usize
     requires { ⌜ tape .length ≤ 65535 ⌝ }
@@ -80,13 +83,7 @@ fn write_header(out: &mut [u8], at: usize, tape: Tape) -> usize
     write_text(out, at_end, b"\n")
 }
 
-fn write_lines(
-    out: &mut [u8],
-    at: usize,
-    nodes: usize,
-    value: &[f64],
-    adjoint: &[f64],
-) -> usize
+fn write_lines(out: &mut [u8], at: usize, nodes: usize, value: &[f64], adjoint: &[f64]) -> usize
     requires { ⌜ at + length (lines (shown (now value) (now adjoint)) (indexes 0 nodes)) ≤ length (now out) ⌝ }
     requires { ⌜ nodes ≤ length (now value) ⌝ }
     requires { ⌜ nodes ≤ length (now adjoint) ⌝ }
@@ -127,7 +124,7 @@ fn write_labelled_bits(out: &mut [u8], at: usize, label: &[u8], x: f64) -> usize
 {
     let at_bits = write_text(out, at, label);
     crate::digits::write_hex(out, at_bits, crate::digits::bits_of(x));
-    at_bits + 16
+    at_bits + HEX_DIGITS
 }
 
 fn write_text(out: &mut [u8], at: usize, text: &[u8]) -> usize

@@ -14,7 +14,7 @@ all-places k n e = ap (λ j. digits 10 j n) (e ∙ length-digits 10 (places 19 n
 returns : tie.Need-returns
 returns c =
     let counted = c .before .before .before .before .decimal-length .ensures in
-    record { bytes = c .before .before .write-digits .ensures ∙ rw (all-places _ _ counted); behind = rw counted }
+    record { bytes = rw (all-places _ _ counted) at (c .before .before .write-digits .ensures); behind = rw counted }
 
 pub write-decimal-spec : {M : Type 1} → statement M
 write-decimal-spec = tie.close (tie.spec (λ c κs. search needs) (λ c κs. search needs) (λ c. search needs) (λ c. search needs) returns)

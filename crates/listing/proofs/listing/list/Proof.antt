@@ -12,7 +12,7 @@ use Rattle.tape.specs.Numbers.{floats}
 use Rattle.tape.specs.Machine.{Machine, arrays, machine, fits}
 use Rattle.tape.specs.Listing.{listing}
 use Rattle.tape.proofs.Tests.{Fit, fit}
-use Rattle.listing.proofs.Listed.{misshapen, too-long, both-fit, written}
+use Rattle.listing.proofs.Written.{misshapen, too-long, both-fit, written}
 use Rattle.listing.proofs.listing.list.Statement.{statement}
 use Rattle.listing.proofs.listing.list.Tie as tie
 

@@ -1,16 +1,13 @@
 -- Part by part; the parts' lengths add up.
-use Prim.Native.Nat.{ℕ, _≤_, _+_}
+use Prim.Native.Nat.{_+_}
 use native.Mathlib.Omega.{arith}
 use mathlib.Core.Path.{_≡_}
-use mathlib.Core.List.{List, _++_}
 use borrow.Author.Needs.{needs}
 use denote.Ref.{now}
-use lib.Ieee.{binary64, toBits}
 use lib.ListN.{length}
-use Rattle.tape.specs.Listing.{bytes, hex, decimal, line}
-use Rattle.listing.specs.Inner.{Wrote, shown}
+use Rattle.tape.specs.Listing.{bytes, decimal, line}
+use Rattle.listing.specs.Inner.{shown}
 use Rattle.listing.proofs.Lines.{line-length}
-use Rattle.listing.proofs.Numerals.{length-hex}
 use Rattle.listing.proofs.Stores.{then, then-two}
 use Rattle.listing.proofs.listing.write_line.Statement.{statement}
 use Rattle.listing.proofs.listing.write_line.Tie as tie

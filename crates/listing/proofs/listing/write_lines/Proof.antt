@@ -1,14 +1,13 @@
 -- The lines left to write, over those that were written, make the whole.
-use Prim.Native.Nat.{ℕ, _+_, _-_, _≤_}
+use Prim.Native.Nat.{_-_, _≤_}
 use native.Mathlib.Nat.{sub-zero}
 use native.Mathlib.Omega.{arith}
-use mathlib.Core.Path.{_≡_, refl, ap, sym, _∙_}
-use mathlib.Core.List.{List, []}
+use mathlib.Core.Path.{_≡_, refl}
 use borrow.Author.Needs.{needs}
 use lib.ListN.{length}
 use Rattle.tape.specs.Walk.{indexes}
 use Rattle.tape.specs.Listing.{lines}
-use Rattle.listing.specs.Inner.{Wrote, shown}
+use Rattle.listing.specs.Inner.{shown}
 use Rattle.listing.proofs.Lines.{lines-from, first-line, first-length, line-length, no-line}
 use Rattle.listing.proofs.Stores.{Left, less-left, none-left}
 use Rattle.listing.proofs.listing.write_lines.Statement.{statement}
