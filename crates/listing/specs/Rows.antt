@@ -20,10 +20,10 @@ pub record Row : Type 0 where
   pub before : Machine floats
   pub lent : List ℕ
   pub answer : Answer floats
-  pub left : List ℕ
+  pub lent-after : List ℕ
 
 abbrev pub Holds : Row → Type 0
-Holds r = listed (r .before) (r .lent) ≡ ((r .answer, r .before), r .left)
+Holds r = listed (r .before) (r .lent) ≡ ((r .answer, r .before), r .lent-after)
 
 abbrev pub one-leaf : Machine floats
 one-leaf = after (move start ∷ leaf nan ∷ []) (fresh (sevens 1))
@@ -37,15 +37,15 @@ ones n = replicate n 1
 
 -- a byte too few: refused, and every byte stays
 abbrev pub too-few : Row
-too-few = record { before = one-leaf; lent = ones 72; answer = refused ListingTooLong; left = ones 72 }
+too-few = record { before = one-leaf; lent = ones 72; answer = refused ListingTooLong; lent-after = ones 72 }
 
 -- two bytes more: they stay
 abbrev pub two-more : Row
-two-more = record { before = one-leaf; lent = ones 75; answer = counted 73; left = its-listing ++ ones 2 }
+two-more = record { before = one-leaf; lent = ones 75; answer = counted 73; lent-after = its-listing ++ ones 2 }
 
 -- a mark past the length: refused, and every byte stays, of which there would be enough
 abbrev pub mark-past-length : Row
-mark-past-length = record { before = machine (record { length = 1; mark = 2; active = true; next = 2 }) (one-leaf .lent); lent = ones 75; answer = refused Misshapen; left = ones 75 }
+mark-past-length = record { before = machine (record { length = 1; mark = 2; active = true; next = 2 }) (one-leaf .lent); lent = ones 75; answer = refused Misshapen; lent-after = ones 75 }
 
 abbrev pub EveryRow : Type 0
 EveryRow = Holds too-few × Holds two-more × Holds mark-past-length

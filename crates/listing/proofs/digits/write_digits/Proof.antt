@@ -27,14 +27,12 @@ abbrev μ-loop : tie.MeasureT-loop
 μ-loop out₀ at n base places left₀ rest₀ out left rest = left
 
 digit-requires : tie.Need-digit-requires Inv-loop μ-loop
-digit-requires c κs = let base = c .before .before .before .args .base in omega (arith, mod-lt (c .before .loop .rest) {m = base} (omega arith))
+digit-requires c κs = omega (arith, mod-lt (c .before .loop .rest) {m = c .before .before .before .args .base} (omega arith))
 
 loop-again : tie.Need-loop-again Inv-loop μ-loop
-loop-again c = (
-  search needs,
-  simp length-set (search needs),
-  rw (c .digit .ensures) (last-digit _ _ _ _ _ (c .before .loop-test .taken) ∙ c .before .before .loop .inv .2),
-)
+loop-again c =
+    let at-loop = c .before .before in
+    (search needs, simp length-set (search needs), rw (c .digit .ensures) (last-digit _ _ _ _ _ (c .before .loop-test .taken) ∙ at-loop .loop .inv .2))
 
 pub write-digits-spec : {M : Type 1} → statement M
 write-digits-spec =

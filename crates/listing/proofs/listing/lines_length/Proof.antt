@@ -22,21 +22,21 @@ Inv-loop nodes total₀ i₀ total i = (i ≤ nodes) × ((A : Arrays floats) →
 abbrev μ-loop : tie.MeasureT-loop
 μ-loop nodes total₀ i₀ total i = nodes - i
 
-loop-holds : tie.Need-loop-holds Inv-loop μ-loop
-loop-holds c = (search needs, λ A. rw sub-zero (omega arith))
-
-add-total : tie.Need-add-total Inv-loop μ-loop
-add-total c = omega (arith, decimal-short (c .before .before .loop .i))
-
 add-total-2 : tie.Need-add-total-2 Inv-loop μ-loop
-add-total-2 c = omega (arith, decimal-short (c .before .before .loop .i), c .before .before .loop .inv .1 (shown [] []), lines-short (shown [] []) 0 (c .before .before .before .args .nodes))
-
-loop-again : tie.Need-loop-again Inv-loop μ-loop
-loop-again c = (search needs, λ A. omega (arith, c .before .before .loop .inv .1 A, first-length A _ _ (c .before .loop-test .taken)))
-
-returns : tie.Need-returns Inv-loop μ-loop
-returns c A = omega (arith, c .before .loop .inv .1 A, ap length (no-line A _ _ (c .loop-test .left)))
+add-total-2 c =
+    let loop = c .before .before .loop in
+    omega (arith, decimal-short (loop .i), loop .inv .1 (shown [] []), lines-short (shown [] []) 0 (c .before .before .before .args .nodes))
 
 pub lines-length-spec : {M : Type 1} → statement M
 lines-length-spec =
-    tie.close (tie.spec Inv-loop μ-loop loop-holds (λ c κs. search needs) add-total add-total-2 (λ c. search needs) (λ c. search needs) loop-again returns)
+    tie.close
+    (tie.spec
+    Inv-loop
+    μ-loop
+    (λ c. (search needs, λ A. rw sub-zero (omega arith)))
+    (λ c κs. search needs)
+    (λ c. omega (arith, decimal-short (c .before .before .loop .i)))
+    add-total-2
+    (λ c. search needs) (λ c. search needs)
+    (λ c. (search needs, λ A. omega (arith, c .before .before .loop .inv .1 A, first-length A _ _ (c .before .loop-test .taken))))
+    (λ c A. omega (arith, c .before .loop .inv .1 A, ap length (no-line A _ _ (c .loop-test .left)))))

@@ -28,44 +28,32 @@ lent c = now (start c .args .out)
 fitting : (c : tie.Else1) → fits true (M (c .before)) ≡ true
 fitting c = sym (c .before .admits .ensures) ∙ not-false (c .before .admits .result) (c .if1 .left)
 
-returns : tie.Need-returns
-returns c = misshapen (M (c .before)) _ (sym (c .before .admits .ensures) ∙ not-true (c .before .admits .result) (c .if1 .taken))
-
-listing-length-requires : tie.Need-listing-length-requires
-listing-length-requires c κs = let f : Fit (M (c .before)) = fit _ (fitting c) in omega arith
-
-returns-2 : tie.Need-returns-2
-returns-2 c = too-long (M (c .before .before .before)) _ (fitting (c .before .before)) (omega (arith, c .before .listing-length .ensures (M (c .before .before .before) .lent)))
-
 roomy : (c : tie.Else2) → length (listing (M (c .before .before .before))) ≤ length (lent (c .before .before .before))
 roomy c = omega (arith, c .before .listing-length .ensures (M (c .before .before .before) .lent))
-
-write-header-requires : tie.Need-write-header-requires
-write-header-requires c κs = omega (arith, both-fit (M (c .before .before .before .before)) (lent (c .before .before .before .before)) (roomy (c .before)))
 
 write-lines-requires : tie.Need-write-lines-requires
 write-lines-requires c κs =
     let free = c .before .before .before .before .before in
-    let m = M (free .before .before .before) in
-    let f : Fit m = fit m (fitting (free .before .before)) in
-    omega (arith, both-fit m (lent (free .before .before .before)) (roomy free))
+    let at-start = free .before .before .before in
+    let f : Fit (M at-start) = fit (M at-start) (fitting (free .before .before)) in
+    omega (arith, both-fit (M at-start) (lent at-start) (roomy free))
 
 returns-3 : tie.Need-returns-3
 returns-3 c =
-    let last = c .before .before in
-    let head = last .before .before .before .before in
-    let free = head .before .before in
-    written (M (free .before .before .before)) _ (fitting (free .before .before)) (roomy free) (head .write-header .ensures) (last .write-lines .ensures)
+    let lines = c .before .before in
+    let header = lines .before .before .before .before in
+    let free = header .before .before in
+    written _ _ (fitting (free .before .before)) (roomy free) (header .write-header .ensures) (lines .write-lines .ensures)
 
 pub list-spec : {M : Type 1} → statement M
 list-spec =
     tie.close
     (tie.spec
     (λ c κs. search needs)
-    returns
-    listing-length-requires
-    returns-2
-    write-header-requires
+    (λ c. misshapen _ _ (sym (c .before .admits .ensures) ∙ not-true (c .before .admits .result) (c .if1 .taken)))
+    (λ c κs. let f : Fit (M (c .before)) = fit _ (fitting c) in omega arith)
+    (λ c. let at-start = c .before .before .before in too-long (M at-start) _ (fitting (c .before .before)) (omega (arith, c .before .listing-length .ensures (M at-start .lent))))
+    (λ c κs. let at-start = c .before .before .before .before in omega (arith, both-fit (M at-start) (lent at-start) (roomy (c .before))))
     write-lines-requires
     (λ c. search needs)
     returns-3)

@@ -8,19 +8,18 @@ use Rattle.listing.proofs.Numerals.{decimal-short}
 use Rattle.listing.proofs.listing.listing_length.Statement.{statement}
 use Rattle.listing.proofs.listing.listing_length.Tie as tie
 
-add-result : tie.Need-add-result
-add-result c = omega (arith, decimal-short (c .before .before .args .tape .length))
-
-add-result-2 : tie.Need-add-result-2
-add-result-2 c = omega (arith, decimal-short (c .before .before .args .tape .length), decimal-short (c .before .before .args .tape .mark))
-
 add-result-3 : tie.Need-add-result-3
 add-result-3 c =
-    let tape = c .before .before .before .args .tape in
-    omega (arith, decimal-short (tape .length), decimal-short (tape .mark), c .lines-length .ensures (shown [] []), lines-short (shown [] []) 0 (tape .length))
-
-returns : tie.Need-returns
-returns c A = omega (arith, listing-length (c .before .before .before .args .tape) A, c .lines-length .ensures A)
+    let t = c .before .before .before .args .tape in
+    omega (arith, decimal-short (t .length), decimal-short (t .mark), c .lines-length .ensures (shown [] []), lines-short (shown [] []) 0 (t .length))
 
 pub listing-length-spec : {M : Type 1} → statement M
-listing-length-spec = tie.close (tie.spec (λ c κs. search needs) (λ c κs. search needs) add-result add-result-2 (λ c κs. search needs) add-result-3 returns)
+listing-length-spec =
+    tie.close
+    (tie.spec
+    (λ c κs. search needs) (λ c κs. search needs)
+    (λ c. omega (arith, decimal-short (c .before .before .args .tape .length)))
+    (λ c. omega (arith, decimal-short (c .before .before .args .tape .length), decimal-short (c .before .before .args .tape .mark)))
+    (λ c κs. search needs)
+    add-result-3
+    (λ c A. omega (arith, listing-length (c .before .before .before .args .tape) A, c .lines-length .ensures A)))

@@ -38,18 +38,6 @@ first c = c .before .before .before .before .before
 abbrev second : tie.After-write-labelled-decimal3 → tie.After-write-labelled-decimal2
 second c = c .before .before .before .before .before .before
 
-write-labelled-decimal-requires : tie.Need-write-labelled-decimal-requires
-write-labelled-decimal-requires c κs = omega (arith, header-length (c .before .before .before .args .tape))
-
-write-labelled-decimal-requires-2 : tie.Need-write-labelled-decimal-requires-2
-write-labelled-decimal-requires-2 c κs = omega (arith, header-length (tape (c .before .before .before .before)))
-
-write-labelled-decimal-requires-3 : tie.Need-write-labelled-decimal-requires-3
-write-labelled-decimal-requires-3 c κs = let t = tape (first (c .before .before .before .before .before)) in omega (arith, header-length t, flag-length (t .active))
-
-write-text-requires : tie.Need-write-text-requires
-write-text-requires c κs = let t = tape (first (second (c .before .before .before .before))) in omega (arith, header-length t, flag-length (t .active))
-
 returns : tie.Need-returns
 returns c =
     let text = c .before .before in
@@ -63,12 +51,12 @@ write-header-spec =
     tie.close
     (tie.spec
     (λ c. search needs)
-    write-labelled-decimal-requires
+    (λ c κs. omega (arith, header-length (c .before .before .before .args .tape)))
     (λ c. search needs)
-    write-labelled-decimal-requires-2
+    (λ c κs. omega (arith, header-length (tape (c .before .before .before .before))))
     (λ c. search needs) (λ c. search needs)
-    write-labelled-decimal-requires-3
+    (λ c κs. let t = tape (first (c .before .before .before .before .before)) in omega (arith, header-length t, flag-length (t .active)))
     (λ c. search needs)
-    write-text-requires
+    (λ c κs. let t = tape (first (second (c .before .before .before .before))) in omega (arith, header-length t, flag-length (t .active)))
     (λ c. search needs)
     returns)

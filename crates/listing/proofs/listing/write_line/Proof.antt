@@ -24,36 +24,24 @@ first c = c .before .before .before .before .before .before
 abbrev second : tie.After-write-labelled-bits2 → tie.After-write-labelled-bits
 second c = c .before .before .before .before .before .before
 
-write-labelled-decimal-requires : tie.Need-write-labelled-decimal-requires
-write-labelled-decimal-requires c κs = omega (arith, long (c .before .before .before .before .before))
-
-write-labelled-bits-requires : tie.Need-write-labelled-bits-requires
-write-labelled-bits-requires c κs = omega (arith, long (start (c .before .before .before .before .before)))
-
-write-labelled-bits-requires-2 : tie.Need-write-labelled-bits-requires-2
-write-labelled-bits-requires-2 c κs = omega (arith, long (start (first (c .before .before .before .before .before))))
-
-write-text-requires : tie.Need-write-text-requires
-write-text-requires c κs = omega (arith, long (start (first (second (c .before .before .before .before)))))
-
 returns : tie.Need-returns
 returns c =
     let text = c .before .before in
-    let third = text .before .before .before .before .before in
-    let one = first (second third) .write-labelled-decimal .ensures in
-    then (then-two (then-two one (bytes " val=") _ (second third .write-labelled-bits .ensures)) (bytes " adj=") _ (third .write-labelled-bits2 .ensures)) (text .write-text .ensures)
+    let three = text .before .before .before .before .before in
+    let two = second three in
+    then (then-two (then-two (first two .write-labelled-decimal .ensures) (bytes " val=") _ (two .write-labelled-bits .ensures)) (bytes " adj=") _ (three .write-labelled-bits2 .ensures)) (text .write-text .ensures)
 
 pub write-line-spec : {M : Type 1} → statement M
 write-line-spec =
     tie.close
     (tie.spec
     (λ c. search needs)
-    write-labelled-decimal-requires
+    (λ c κs. omega (arith, long (c .before .before .before .before .before)))
     (λ c. search needs) (λ c. search needs) (λ c. search needs)
-    write-labelled-bits-requires
+    (λ c κs. omega (arith, long (start (c .before .before .before .before .before))))
     (λ c. search needs) (λ c. search needs) (λ c. search needs)
-    write-labelled-bits-requires-2
+    (λ c κs. omega (arith, long (start (first (c .before .before .before .before .before)))))
     (λ c. search needs)
-    write-text-requires
+    (λ c κs. omega (arith, long (start (first (second (c .before .before .before .before))))))
     (λ c. search needs)
     returns)

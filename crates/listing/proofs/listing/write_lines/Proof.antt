@@ -4,6 +4,7 @@ use native.Mathlib.Nat.{sub-zero}
 use native.Mathlib.Omega.{arith}
 use mathlib.Core.Path.{_≡_, refl}
 use borrow.Author.Needs.{needs}
+use denote.Ref.{now}
 use lib.ListN.{length}
 use Rattle.tape.specs.Walk.{indexes}
 use Rattle.tape.specs.Listing.{lines}
@@ -19,24 +20,17 @@ Inv-loop out₀ at nodes value adjoint end₀ i₀ out end i = (i ≤ nodes) × 
 abbrev μ-loop : tie.MeasureT-loop
 μ-loop out₀ at nodes value adjoint end₀ i₀ out end i = nodes - i
 
-loop-holds : tie.Need-loop-holds Inv-loop μ-loop
-loop-holds c = (search needs, search needs, rw sub-zero (record { bytes = refl; behind = refl }))
-
 write-line-requires : tie.Need-write-line-requires Inv-loop μ-loop
 write-line-requires c κs =
-    let A = shown (c .before .before .before .before .before .before .args .value .now) (c .before .before .before .before .before .before .args .adjoint .now) in
+    let a = c .before .before .before .before .before .before .args in
+    let A = shown (now (a .value)) (now (a .adjoint)) in
     omega (arith, line-length A (c .before .before .loop .i), first-length A _ _ (c .before .loop-test .taken))
 
 loop-again : tie.Need-loop-again Inv-loop μ-loop
 loop-again c =
-    let turn = c .before .before in (
-      search needs,
-      search needs,
-      less-left (rw (first-line (shown _ _) _ _ (turn .before .before .loop-test .taken)) at (turn .before .before .before .loop .inv .2)) (turn .write-line .ensures),
-    )
-
-returns : tie.Need-returns Inv-loop μ-loop
-returns c = none-left (rw (no-line (shown _ _) _ _ (c .loop-test .left)) at (c .before .loop .inv .2))
+    let turn = c .before .before in
+    let at-test = turn .before .before in
+    (search needs, search needs, less-left (rw (first-line (shown _ _) _ _ (at-test .loop-test .taken)) at (at-test .before .loop .inv .2)) (turn .write-line .ensures))
 
 pub write-lines-spec : {M : Type 1} → statement M
 write-lines-spec =
@@ -44,9 +38,9 @@ write-lines-spec =
     (tie.spec
     Inv-loop
     μ-loop
-    loop-holds
+    (λ c. (search needs, search needs, rw sub-zero (record { bytes = refl; behind = refl })))
     write-line-requires
     (λ c. search needs) (λ c. search needs)
     loop-again
     (λ c. search needs)
-    returns)
+    (λ c. none-left (rw (no-line (shown _ _) _ _ (c .loop-test .left)) at (c .before .loop .inv .2))))

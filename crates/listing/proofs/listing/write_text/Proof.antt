@@ -25,23 +25,14 @@ Inv-loop out₀ at text i₀ out i = (i ≤ length text) × (length out ≡ leng
 abbrev μ-loop : tie.MeasureT-loop
 μ-loop out₀ at text i₀ out i = length text - i
 
-loop-holds : tie.Need-loop-holds Inv-loop μ-loop
-loop-holds c = (search needs, search needs, rw add-zero)
-
-loop-again : tie.Need-loop-again Inv-loop μ-loop
-loop-again c = (search needs, simp length-set (search needs), one-more _ _ _ _ (c .before .loop-test .taken) ∙ c .before .before .loop .inv .2)
-
-returns : tie.Need-returns Inv-loop μ-loop
-returns c = record { bytes = none-left _ _ _ (c .loop-test .left) (c .before .loop .inv .2); behind = search needs }
-
 pub write-text-spec : {M : Type 1} → statement M
 write-text-spec =
     tie.close
     (tie.spec
     Inv-loop
     μ-loop
-    loop-holds
+    (λ c. (search needs, search needs, rw add-zero))
     (λ c. search needs) (λ c. search needs) (λ c. search needs) (λ c. search needs) (λ c. search needs)
-    loop-again
+    (λ c. (search needs, simp length-set (search needs), one-more _ _ _ _ (c .before .loop-test .taken) ∙ c .before .before .loop .inv .2))
     (λ c. search needs) (λ c. search needs)
-    returns)
+    (λ c. record { bytes = none-left _ _ _ (c .loop-test .left) (c .before .loop .inv .2); behind = search needs }))
