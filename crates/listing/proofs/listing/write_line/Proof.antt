@@ -1,19 +1,31 @@
 -- Part by part; the parts' lengths add up.
-use Prim.Native.Nat.{_+_}
+use Prim.Native.Nat.{ℕ, _+_}
 use native.Mathlib.Omega.{arith}
 use mathlib.Core.Path.{_≡_}
+use mathlib.Core.List.{List}
 use borrow.Author.Needs.{needs}
 use denote.Ref.{now}
-use lib.ListN.{length}
-use Rattle.tape.specs.Listing.{bytes, decimal, line}
+use lib.Ieee.{Float, nan, binary64, toBits}
+use lib.ListN.{length, getD}
+use Rattle.tape.specs.Listing.{bytes, hex, decimal, line}
 use Rattle.listing.specs.Inner.{shown}
 use Rattle.listing.proofs.Lines.{line-length}
+use Rattle.listing.proofs.Numerals.{length-hex}
 use Rattle.listing.proofs.Stores.{then, then-two}
 use Rattle.listing.proofs.listing.write_line.Statement.{statement}
 use Rattle.listing.proofs.listing.write_line.Tie as tie
 
-long : (c : tie.Start) → length (line (shown (now (c .args .value)) (now (c .args .adjoint))) (c .args .i)) ≡ 48 + length (decimal (c .args .i))
-long c = line-length (shown (now (c .args .value)) (now (c .args .adjoint))) (c .args .i)
+record Lengths (values adjoints : List Float) (i : ℕ) : Type 0 where
+  whole : length (line (shown values adjoints) i) ≡ 48 + length (decimal i)
+  value : length (hex (toBits binary64 (getD values i nan))) ≡ 16
+  adjoint : length (hex (toBits binary64 (getD adjoints i nan))) ≡ 16
+
+all-lengths : (values adjoints : List Float) (i : ℕ) → Lengths values adjoints i
+all-lengths values adjoints i =
+    record { whole = line-length (shown values adjoints) i; value = length-hex (toBits binary64 (getD values i nan)); adjoint = length-hex (toBits binary64 (getD adjoints i nan)) }
+
+lengths : (c : tie.Start) → Lengths (now (c .args .value)) (now (c .args .adjoint)) (c .args .i)
+lengths c = all-lengths (now (c .args .value)) (now (c .args .adjoint)) (c .args .i)
 
 abbrev start : tie.After-write-labelled-decimal → tie.Start
 start c = c .before .before .before .before .before .before
@@ -36,12 +48,12 @@ write-line-spec =
     tie.close
     (tie.spec
     (λ c. search needs)
-    (λ c κs. omega (arith, long (c .before .before .before .before .before)))
+    (λ c κs. omega (arith, lengths (c .before .before .before .before .before)))
     (λ c. search needs) (λ c. search needs) (λ c. search needs)
-    (λ c κs. omega (arith, long (start (c .before .before .before .before .before))))
+    (λ c κs. omega (arith, lengths (start (c .before .before .before .before .before))))
     (λ c. search needs) (λ c. search needs) (λ c. search needs)
-    (λ c κs. omega (arith, long (start (first (c .before .before .before .before .before)))))
+    (λ c κs. omega (arith, lengths (start (first (c .before .before .before .before .before)))))
     (λ c. search needs)
-    (λ c κs. omega (arith, long (start (first (second (c .before .before .before .before))))))
+    (λ c κs. omega (arith, lengths (start (first (second (c .before .before .before .before))))))
     (λ c. search needs)
     returns)
