@@ -1,10 +1,18 @@
 // Writes the listing into lent bytes. Whether it fits is settled before any byte is written.
+use crate::digits::HEX_DIGITS;
 use tape::Refusal;
 use tape::Tape;
+ghost use Prim.Native.Nat.{_+_, _≤_, _<_};
 ghost use mathlib.Core.Path.{_≡_};
+ghost use mathlib.Core.List.{_++_};
+ghost use lib.Ieee.{binary64, toBits};
+ghost use lib.ListN.{length};
 ghost use Rattle.tape.specs.Numbers.{floats};
-ghost use Rattle.tape.specs.Machine.{arrays, machine};
+ghost use Rattle.tape.specs.Machine.{Arrays, arrays, machine};
+ghost use Rattle.tape.specs.Walk.{indexes};
+ghost use Rattle.tape.specs.Listing.{hex, decimal, header, line, lines, listing};
 ghost use Rattle.listing.specs.Outcome.{outcome, listed};
+ghost use Rattle.listing.specs.Inner.{Wrote, shown};
 
 // What a listing answers: how many bytes were written, or the refusal.
 pub enum Listed {
@@ -27,5 +35,106 @@ pub fn list(
         (outcome x (machine tape (arrays {N = floats} (now (value .entry)) (now (adjoint .entry)) (now (serial .entry)) (now (count .entry)) (now (child .entry)) (now (partial .entry)))), now (out .exit))
         ≡ listed (machine tape (arrays (now (value .entry)) (now (adjoint .entry)) (now (serial .entry)) (now (count .entry)) (now (child .entry)) (now (partial .entry)))) (now (out .entry)) ⌝ }
 {
-    Listed::Refused(Refusal::Misshapen)
+    if !tape.admits(value, adjoint, serial, count, child, partial) {
+        return Listed::Refused(Refusal::Misshapen);
+    }
+    if out.len() < listing_length(tape) {
+        return Listed::Refused(Refusal::ListingTooLong);
+    }
+    let at = write_header(out, 0, tape);
+    Listed::Written(write_lines(out, at, tape.length, value, adjoint))
+}
+
+// Beside its two numbers the header has three labels, the flag and a line feed.
+const HEADER_BYTES: usize = 6 + 6 + 8 + 1 + 1;
+
+// Beside its index a line has three labels, two patterns and a line feed.
+const LINE_BYTES: usize = 5 + 5 + 5 + 2 * HEX_DIGITS + 1;
+
+fn listing_length(tape: Tape) -> usize
+    requires { ⌜ tape .length ≤ 65535 ⌝ }
+    ensures { λ x. ⌜ ((A : Arrays floats) → x ≡ length (listing (machine tape A))) ⌝ }
+{
+    let nodes = crate::digits::decimal_length(tape.length);
+    let mark = crate::digits::decimal_length(tape.mark);
+    HEADER_BYTES + nodes + mark + lines_length(tape.length)
+}
+
+fn lines_length(nodes: usize) -> usize
+    requires { ⌜ nodes ≤ 65535 ⌝ }
+    ensures { λ x. ⌜ ((A : Arrays floats) → x ≡ length (lines A (indexes 0 nodes))) ⌝ }
+{
+    let mut total = 0;
+    let mut i = 0;
+    while i < nodes {
+        total += LINE_BYTES + crate::digits::decimal_length(i);
+        i += 1;
+    }
+    total
+}
+
+fn write_header(out: &mut [u8], at: usize, tape: Tape) -> usize
+    requires { ⌜ at + length (header tape) ≤ length (now out) ⌝ }
+    ensures { λ end. ⌜ Wrote (now (out .entry)) at (header tape) (now (out .exit)) end ⌝ }
+{
+    let at_mark = write_labelled_decimal(out, at, b"nodes=", tape.length);
+    let at_active = write_labelled_decimal(out, at_mark, b" mark=", tape.mark);
+    let at_end = write_labelled_decimal(out, at_active, b" active=", tape.active as usize);
+    write_text(out, at_end, b"\n")
+}
+
+fn write_lines(out: &mut [u8], at: usize, nodes: usize, value: &[f64], adjoint: &[f64]) -> usize
+    requires { ⌜ at + length (lines (shown (now value) (now adjoint)) (indexes 0 nodes)) ≤ length (now out) ⌝ }
+    requires { ⌜ nodes ≤ length (now value) ⌝ }
+    requires { ⌜ nodes ≤ length (now adjoint) ⌝ }
+    ensures { λ end. ⌜ Wrote (now (out .entry)) at (lines (shown (now (value .entry)) (now (adjoint .entry))) (indexes 0 nodes)) (now (out .exit)) end ⌝ }
+{
+    let mut end = at;
+    let mut i = 0;
+    while i < nodes {
+        end = write_line(out, end, i, value, adjoint);
+        i += 1;
+    }
+    end
+}
+
+fn write_line(out: &mut [u8], at: usize, i: usize, value: &[f64], adjoint: &[f64]) -> usize
+    requires { ⌜ at + length (line (shown (now value) (now adjoint)) i) ≤ length (now out) ⌝ }
+    requires { ⌜ i < length (now value) ⌝ }
+    requires { ⌜ i < length (now adjoint) ⌝ }
+    ensures { λ end. ⌜ Wrote (now (out .entry)) at (line (shown (now (value .entry)) (now (adjoint .entry))) i) (now (out .exit)) end ⌝ }
+{
+    let at_value = write_labelled_decimal(out, at, b"node=", i);
+    let at_adjoint = write_labelled_bits(out, at_value, b" val=", value[i]);
+    let at_end = write_labelled_bits(out, at_adjoint, b" adj=", adjoint[i]);
+    write_text(out, at_end, b"\n")
+}
+
+fn write_labelled_decimal(out: &mut [u8], at: usize, label: &[u8], n: usize) -> usize
+    requires { ⌜ at + length (now label) + length (decimal n) ≤ length (now out) ⌝ }
+    ensures { λ end. ⌜ Wrote (now (out .entry)) at (now (label .entry) ++ decimal n) (now (out .exit)) end ⌝ }
+{
+    let at_number = write_text(out, at, label);
+    crate::digits::write_decimal(out, at_number, n)
+}
+
+fn write_labelled_bits(out: &mut [u8], at: usize, label: &[u8], x: f64) -> usize
+    requires { ⌜ at + length (now label) + 16 ≤ length (now out) ⌝ }
+    ensures { λ end. ⌜ Wrote (now (out .entry)) at (now (label .entry) ++ hex (toBits binary64 x)) (now (out .exit)) end ⌝ }
+{
+    let at_bits = write_text(out, at, label);
+    crate::digits::write_hex(out, at_bits, crate::digits::bits_of(x));
+    at_bits + HEX_DIGITS
+}
+
+fn write_text(out: &mut [u8], at: usize, text: &[u8]) -> usize
+    requires { ⌜ at + length (now text) ≤ length (now out) ⌝ }
+    ensures { λ end. ⌜ Wrote (now (out .entry)) at (now (text .entry)) (now (out .exit)) end ⌝ }
+{
+    let mut i = 0;
+    while i < text.len() {
+        out[at + i] = text[i];
+        i += 1;
+    }
+    at + i
 }

@@ -73,7 +73,7 @@ answered {N} {M} h (records v es r s) e =
 sound-by : {N : Numbers} (A : Arrays N) (i k : ℕ) (es : List (Edge N)) → getD (A .count) i 0 ≡ k → k ≤ 2 → edges-from (A .child) (A .partial) (slot i) k ≡ es → all (map (λ e. ltb (e .child) i) es) ≡ true → sound A i ≡ true
 sound-by A i k es count few same below = rw (count, same, le-leb k 2 few) below
 
-abbrev SoundNodes : {N : Numbers} → Machine N → Type 0
+abbrev pub SoundNodes : {N : Numbers} → Machine N → Type 0
 SoundNodes M = (i : ℕ) → i < M .state .length → sound (M .lent) i ≡ true
 
 sound-kept : {N : Numbers} (M : Machine N) (x : Answer N × Machine N) → Effect M x → SoundNodes M → SoundNodes (x .1)

@@ -58,6 +58,11 @@ by-refusal P c M hit passed =
     (λ (shape, (known, (all-live, (standing, (room, (serial, (unsound, (short, _)))))))).
     passed (record { shape = not-false _ shape; known = known; all-live = all-live; standing = standing; room = room; serial = serial; sound-range = not-false _ unsound; short = short }))
 
+-- refusal 1, which comes before all others
+pub misshapen : {N : Numbers} (c : Call N) (M : Machine N) → fits (asked c (M .state) .arrays) M ≡ false → (refused Misshapen, M) ≡ step c M
+unfolding step
+misshapen c M e = rw e
+
 -- a machine that has room for a node
 pub record Ready {N : Numbers} (M : Machine N) : Type 0 where
   pub fit : Fit M

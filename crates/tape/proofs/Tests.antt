@@ -1,12 +1,12 @@
--- What tests tell: a branch, a list of tests that all hold, and refusal 1's not being given.
+-- What tests tell: a branch, a list of tests that all hold, and refusal 1's not being given, which bounds tell in turn.
 use Prim.Native.Nat.{ℕ, _≤_}
 use mathlib.Core.Path.{_≡_, refl}
 use mathlib.Core.Bool.{Bool, true, false, _||_, cond, and-eq-true-iff}
 use mathlib.Core.List.{List, [], _∷_, _++_}
-use borrow.Author.Tests.{leb-true, eqb-true, eqb-false, not-true}
+use borrow.Author.Tests.{leb-true, eqb-true, eqb-false, not-true, le-leb, eq-eqb, ne-eqb}
 use lib.ListN.{length}
 use Rattle.tape.specs.Numbers.{Numbers}
-use Rattle.tape.specs.Machine.{Machine, capacity, slot, all, fits, arrays-fit, state-fits}
+use Rattle.tape.specs.Machine.{Machine, machine, capacity, slot, all, fits, arrays-fit, state-fits}
 use Rattle.tape.specs.declared.state.Tape.{Tape}
 
 pub by-test : {A : Type 0} (P : A → Type 0) (b : Bool) {x y : A} → (b ≡ true → P x) → (b ≡ false → P y) → P (cond b x y)
@@ -49,3 +49,12 @@ pub fit : {N : Numbers} (M : Machine N) → fits true M ≡ true → Fit M
 fit M e =
     let (n, (a, (s, (c, (h, (p, state)))))) = every (arrays-fit (M .lent) ++ state-fits (capacity (M .lent)) (M .state)) e in
     record { small = leb-true _ _ n; adjoint = eqb-true _ _ a; serial = eqb-true _ _ s; count = eqb-true _ _ c; child = eqb-true _ _ h; partial = eqb-true _ _ p; state = of-tests _ _ state }
+
+-- ---- the other way: from bounds to the tests
+
+pub state-fit-so : (n : ℕ) (t : Tape) → StateFit n t → all (state-fits n t) ≡ true
+state-fit-so n t f = simp (le-leb _ _ (f .length), le-leb _ _ (f .mark), ne-eqb _ _ (f .next))
+
+-- the arrays of a machine that fits, under any state that does
+pub refits : {N : Numbers} (M : Machine N) (t : Tape) → Fit M → StateFit (capacity (M .lent)) t → fits true (machine t (M .lent)) ≡ true
+refits M t f g = simp (le-leb _ _ (f .small), eq-eqb _ _ (f .adjoint), eq-eqb _ _ (f .serial), eq-eqb _ _ (f .count), eq-eqb _ _ (f .child), eq-eqb _ _ (f .partial), state-fit-so _ t g)

@@ -1,6 +1,6 @@
 -- The calls, and what each does to the machine: `step` carries out one call and `run` a list of them.
 -- The refusals stand in one table, in order. The first test that hits refuses the call and leaves the machine as it was.
-use Prim.Native.Nat.{ℕ, suc, _+_, _-_}
+use Prim.Native.Nat.{ℕ, _+_, _-_}
 use mathlib.Core.Bool.{Bool, true, false, not, _&&_, _||_, cond}
 use mathlib.Core.List.{List, [], _∷_, _++_, map}
 use mathlib.Core.Option.{Option, none, some}
@@ -100,7 +100,7 @@ pub record Plan (N : Numbers) : Type 0 where
 -- the index past a root's; a plain number is no root, and refused
 abbrev pub past : {N : Numbers} → Operand N → ℕ
 past (plain x) = 0
-past (node h) = suc (h .index)
+past (node h) = h .index + 1
 
 abbrev pub plan : {N : Numbers} → Pass N → Tape → Plan N
 plan (backward x) t = record { root = x ∷ []; from = 0; end = past x }

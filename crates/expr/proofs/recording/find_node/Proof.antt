@@ -3,7 +3,7 @@ use Prim.Native.Nat.{_<_}
 use borrow.Author.Needs.{needs}
 use denote.Ref.{now}
 use native.Mathlib.Omega.{arith}
-use Rattle.expr.proofs.Lookups.{below, alive, dead}
+use Rattle.tape.proofs.Lookups.{below, alive, dead}
 use Rattle.expr.proofs.recording.find_node.Statement.{statement}
 use Rattle.expr.proofs.recording.find_node.Tie as tie
 

@@ -1,0 +1,5 @@
+pub mod Loops
+pub mod OneToOne
+pub mod Plans
+pub mod Readings
+pub mod Walks

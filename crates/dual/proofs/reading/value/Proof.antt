@@ -1,0 +1,21 @@
+-- A number at once, a handle by its lookup.
+use mathlib.Core.Path.{sym, _∙_}
+use denote.Ref.{now}
+use borrow.Author.Tests.{not-true, not-false}
+use Rattle.tape.specs.Machine.{arrays, machine}
+use Rattle.tape.proofs.Steps.{misshapen}
+use Rattle.dual.proofs.Readings.{readable-values, value-number, value-node}
+use borrow.Author.Needs.{needs}
+use Rattle.dual.proofs.reading.value.Statement.{statement}
+use Rattle.dual.proofs.reading.value.Tie as tie
+
+pub value-spec : {M : Type 1} → statement M
+value-spec =
+    tie.close
+    (tie.spec
+    (λ _ _. tt)
+    (λ c. misshapen _ _ (sym (c .before .admits .ensures) ∙ not-true (c .before .admits .result) (c .if1 .taken)))
+    (λ c. search needs) (λ c. search needs)
+    (λ c κs. readable-values (machine (c .before .before .before .before .before .before .before .before .before .before .before .args .tape) (arrays (now (c .before .before .before .before .before .before .before .before .before .before .before .args .value)) (now (c .before .before .before .before .before .before .before .before .before .before .before .args .adjoint)) (now (c .before .before .before .before .before .before .before .before .before .before .before .args .serial)) (now (c .before .before .before .before .before .before .before .before .before .before .before .args .count)) (now (c .before .before .before .before .before .before .before .before .before .before .before .args .child)) (now (c .before .before .before .before .before .before .before .before .before .before .before .args .partial)))) (sym (c .before .before .before .before .admits .ensures) ∙ not-false (c .before .before .before .before .admits .result) (c .before .before .before .if1 .left)))
+    (λ c. value-number (machine (c .before .before .before .before .before .before .before .before .before .before .before .args .tape) (arrays (now (c .before .before .before .before .before .before .before .before .before .before .before .args .value)) (now (c .before .before .before .before .before .before .before .before .before .before .before .args .adjoint)) (now (c .before .before .before .before .before .before .before .before .before .before .before .args .serial)) (now (c .before .before .before .before .before .before .before .before .before .before .before .args .count)) (now (c .before .before .before .before .before .before .before .before .before .before .before .args .child)) (now (c .before .before .before .before .before .before .before .before .before .before .before .args .partial)))) (sym (c .before .before .before .before .admits .ensures) ∙ not-false (c .before .before .before .before .admits .result) (c .before .before .before .if1 .left)) _ _ (c .before .x .given .1))
+    (λ c. value-node (machine (c .before .before .before .before .before .before .before .before .before .before .before .before .args .tape) (arrays (now (c .before .before .before .before .before .before .before .before .before .before .before .before .args .value)) (now (c .before .before .before .before .before .before .before .before .before .before .before .before .args .adjoint)) (now (c .before .before .before .before .before .before .before .before .before .before .before .before .args .serial)) (now (c .before .before .before .before .before .before .before .before .before .before .before .before .args .count)) (now (c .before .before .before .before .before .before .before .before .before .before .before .before .args .child)) (now (c .before .before .before .before .before .before .before .before .before .before .before .before .args .partial)))) (sym (c .before .before .before .before .before .admits .ensures) ∙ not-false (c .before .before .before .before .before .admits .result) (c .before .before .before .before .if1 .left)) _ _ _ (c .before .before .x2 .given .1) (c .behind .ensures)))

@@ -1,0 +1,111 @@
+-- What the private functions promise: the rule as the code goes about it. Only their proofs use it; every public promise speaks of `step`.
+use Prim.Native.Nat.{ℕ, _+_, _-_, _≤_, _<_}
+use mathlib.Core.Path.{_≡_}
+use mathlib.Core.Bool.{Bool, true, cond}
+use mathlib.Core.List.{List, [], _∷_, map}
+use lib.Ieee.{Float, nan}
+use lib.ListN.{length, getD}
+use Rattle.tape.specs.Numbers.{floats}
+use Rattle.tape.specs.Machine.{Arrays, Machine, arrays, slot, all}
+use Rattle.tape.specs.Handles.{Operand, plain, node, operand, lives}
+use Rattle.tape.specs.Walk.{Edge, walk, edges-at, indexes, visited, sound}
+use Rattle.tape.specs.Answers.{Answer, refused, counted}
+use Rattle.tape.specs.Calls.{Pass, backward, backward-to-mark, backward-mark-to-start, propagate-to-mark, propagate-mark-to-start, Plan, plan, range, walked}
+use Rattle.tape.specs.declared.errors.Refusal.the-variants.{NotLive, Detached, UnsoundEdge}
+use Rattle.tape.specs.declared.node.Handle.{Handle}
+use Rattle.tape.specs.declared.node.Lookup.{Lookup}
+use Rattle.tape.specs.declared.node.Lookup.the-variants as lookup
+use Rattle.tape.specs.declared.node.Operand as code
+use Rattle.tape.specs.declared.state.Tape.{Tape}
+use Rattle.dual.specs.declared.reading.Read as read
+use Rattle.dual.specs.declared.reading.Liveness as liveness
+use Rattle.dual.specs.declared.planning.Pass as passes
+use Rattle.dual.specs.declared.planning.Span.{Span}
+use Rattle.dual.specs.declared.planning.Planned as planned
+use Rattle.dual.specs.declared.planning.Root as root
+
+-- ---- reads
+
+abbrev pub behind-node : ℕ → List ℕ → List Float → Handle → read.Read
+behind-node n serials held h = cond (lives n serials h) (read.the-variants.Number (getD held (h .index) nan)) (read.the-variants.Refused NotLive)
+
+abbrev pub told-of : Lookup → liveness.Liveness
+told-of lookup.Live = liveness.the-variants.Live
+told-of lookup.NotLive = liveness.the-variants.NotLive
+
+-- ---- plans
+
+-- the pass that the code's name and root stand for
+abbrev pub pass-of : passes.Pass → code.Operand → Pass floats
+pass-of passes.the-variants.Backward x = backward (operand x)
+pass-of passes.the-variants.BackwardToMark x = backward-to-mark (operand x)
+pass-of passes.the-variants.BackwardMarkToStart x = backward-mark-to-start (operand x)
+pass-of passes.the-variants.PropagateToMark x = propagate-to-mark
+pass-of passes.the-variants.PropagateMarkToStart x = propagate-mark-to-start
+
+abbrev pub found-root : ℕ → List ℕ → List (Operand floats) → root.Root
+found-root n serials [] = root.the-variants.None
+found-root n serials (plain x ∷ os) = root.the-variants.Refused Detached
+found-root n serials (node h ∷ os) = cond (lives n serials h) (root.the-variants.At h) (root.the-variants.Refused NotLive)
+
+abbrev pub span-of : Plan floats → Span
+span-of P = record { from = P .from; end = P .end }
+
+-- the arrays that a walk reads
+abbrev pub edge-arrays : List ℕ → List ℕ → List Float → Arrays floats
+edge-arrays counts children partials = arrays [] [] [] counts children partials
+
+abbrev pub inside : Span → List ℕ
+inside s = indexes (s .from) (s .end - s .from)
+
+abbrev pub sound-edges : List ℕ → List ℕ → ℕ → Bool
+sound-edges counts children i = sound (edge-arrays counts children []) i
+
+abbrev pub all-sound : List ℕ → List ℕ → Span → Bool
+all-sound counts children s = all (map (sound-edges counts children) (inside s))
+
+-- what a plan comes to, carried out
+abbrev pub carried-out : planned.Planned → Machine floats → Answer floats × Machine floats
+carried-out (planned.the-variants.Refused r) M = (refused r, M)
+carried-out (planned.the-variants.Rooted h s) M = let P : Plan floats = record { root = node h ∷ []; from = s .from; end = s .end } in (counted (visited (M .lent) (range P)), walked P M)
+carried-out (planned.the-variants.Unrooted s) M = let P : Plan floats = record { root = []; from = s .from; end = s .end } in (counted (visited (M .lent) (range P)), walked P M)
+
+-- ---- walks
+
+-- node i's entries are there, and its edge slots
+pub record EdgeRoom (i : ℕ) (counts children : List ℕ) : Type 0 where
+  pub small : i < 65535
+  pub count : i < length counts
+  pub child : slot i + 2 ≤ length children
+
+-- node i can be walked
+pub record NodeRoom (i : ℕ) (adjoints : List Float) (counts children : List ℕ) (partials : List Float) : Type 0 where
+  pub adjoint : i < length adjoints
+  pub edges : EdgeRoom i counts children
+  pub partial : slot i + 2 ≤ length partials
+  pub sound : sound-edges counts children i ≡ true
+
+-- a span whose nodes can be tested: its end is within the arrays, which hold no more nodes than a tape does
+pub record Within (s : Span) (counts children : List ℕ) : Type 0 where
+  pub small : s .end ≤ 65535
+  pub count : s .end ≤ length counts
+  pub child : slot (s .end) ≤ length children
+
+-- a span whose nodes can be walked
+pub record Walkable (s : Span) (adjoints : List Float) (counts children : List ℕ) (partials : List Float) : Type 0 where
+  pub within : Within s counts children
+  pub adjoint : s .end ≤ length adjoints
+  pub partial : slot (s .end) ≤ length partials
+  pub sound : all-sound counts children s ≡ true
+
+-- a plan that can be carried out
+abbrev pub Ready : planned.Planned → List Float → List ℕ → List ℕ → List Float → Type 0
+Ready (planned.the-variants.Refused r) adjoints counts children partials = Unit {0}
+Ready (planned.the-variants.Rooted h s) adjoints counts children partials = (h .index < length adjoints) × Walkable s adjoints counts children partials
+Ready (planned.the-variants.Unrooted s) adjoints counts children partials = Walkable s adjoints counts children partials
+
+abbrev pub walked-back : Span → List ℕ → List ℕ → List Float → List Float → List Float
+walked-back s counts children partials adjoints = walk (s .from) (map (edges-at (edge-arrays counts children partials)) (inside s)) adjoints
+
+abbrev pub visits : Span → List ℕ → ℕ
+visits s counts = visited {N = floats} (edge-arrays counts [] []) (inside s)

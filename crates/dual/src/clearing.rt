@@ -1,0 +1,49 @@
+// Clearing: +0.0 in each live adjoint.
+use tape::Refusal;
+use tape::Tape;
+ghost use Prim.Native.Nat.{_≤_};
+ghost use mathlib.Core.Path.{_≡_};
+ghost use mathlib.Core.List.{_++_};
+ghost use lib.ListN.{length, drop, replicate};
+ghost use Rattle.tape.specs.Numbers.{floats};
+ghost use Rattle.tape.specs.Machine.{arrays, machine};
+ghost use Rattle.tape.specs.Calls.{step, clear};
+ghost use Rattle.dual.specs.Outcome.{reset};
+
+// What clearing answers: that it was done, or the refusal.
+pub enum Cleared {
+    Done,
+    Refused(Refusal),
+}
+
+// Sets each live adjoint to +0.0; those past the length stay. Refuses 1 alone.
+pub fn reset_adjoints(
+    tape: Tape,
+    value: &[f64],
+    adjoint: &mut [f64],
+    serial: &[u64],
+    count: &[u8],
+    child: &[u16],
+    partial: &[f64],
+) -> Cleared
+    ensures { λ x. ⌜
+        reset x (machine tape (arrays {N = floats} (now (value .entry)) (now (adjoint .exit)) (now (serial .entry)) (now (count .entry)) (now (child .entry)) (now (partial .entry))))
+        ≡ step (clear) (machine tape (arrays (now (value .entry)) (now (adjoint .entry)) (now (serial .entry)) (now (count .entry)) (now (child .entry)) (now (partial .entry)))) ⌝ }
+{
+    if !tape.admits(value, adjoint, serial, count, child, partial) {
+        return Cleared::Refused(Refusal::Misshapen);
+    }
+    clear_first(tape.length, adjoint);
+    Cleared::Done
+}
+
+fn clear_first(n: usize, adjoint: &mut [f64])
+    requires { ⌜ n ≤ length (now adjoint) ⌝ }
+    ensures { λ _. ⌜ now (adjoint .exit) ≡ replicate n (floats .nought) ++ drop n (now (adjoint .entry)) ⌝ }
+{
+    let mut i = 0;
+    while i < n {
+        adjoint[i] = 0.0;
+        i += 1;
+    }
+}

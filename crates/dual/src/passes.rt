@@ -1,0 +1,215 @@
+// The five reverse passes. Each plans first, which settles every refusal, and then walks.
+use crate::planning::Pass;
+use crate::planning::Planned;
+use tape::Operand;
+use tape::Refusal;
+use tape::Tape;
+ghost use mathlib.Core.Path.{_≡_};
+ghost use Prim.Native.Nat.{ℕ};
+ghost use mathlib.Core.List.{List};
+ghost use lib.Ieee.{Float};
+ghost use Rattle.tape.specs.Numbers.{floats};
+ghost use Rattle.tape.specs.Machine.{arrays, machine};
+ghost use Rattle.tape.specs.Handles.{operand};
+ghost use Rattle.tape.specs.Calls.{step, pass, backward, backward-to-mark, backward-mark-to-start, propagate-to-mark, propagate-mark-to-start};
+ghost use Rattle.dual.specs.Outcome.{passed-back};
+ghost use Rattle.dual.specs.Inner.{pass-of, Ready, carried-out};
+
+// What a pass answers: how many edges it visited, or the refusal.
+pub enum Passed {
+    Visited(u32),
+    Refused(Refusal),
+}
+
+// Sets the root's adjoint to one and walks from it down to the first node. Refuses 1, 3 and 4 for the root, and 7.
+pub fn backward(
+    tape: Tape,
+    value: &[f64],
+    adjoint: &mut [f64],
+    serial: &[u64],
+    count: &[u8],
+    child: &[u16],
+    partial: &[f64],
+    root: Operand,
+) -> Passed
+    ensures { λ x. ⌜
+        passed-back x (machine tape (arrays {N = floats} (now (value .entry)) (now (adjoint .exit)) (now (serial .entry)) (now (count .entry)) (now (child .entry)) (now (partial .entry))))
+        ≡ step (pass (backward (operand root))) (machine tape (arrays (now (value .entry)) (now (adjoint .entry)) (now (serial .entry)) (now (count .entry)) (now (child .entry)) (now (partial .entry)))) ⌝ }
+{
+    run(
+        Pass::Backward,
+        tape,
+        value,
+        adjoint,
+        serial,
+        count,
+        child,
+        partial,
+        root,
+    )
+}
+
+// Sets the root's adjoint to one and walks from the last node down to the mark, wherever the root lies. Refuses as `backward` does.
+pub fn backward_to_mark(
+    tape: Tape,
+    value: &[f64],
+    adjoint: &mut [f64],
+    serial: &[u64],
+    count: &[u8],
+    child: &[u16],
+    partial: &[f64],
+    root: Operand,
+) -> Passed
+    ensures { λ x. ⌜
+        passed-back x (machine tape (arrays {N = floats} (now (value .entry)) (now (adjoint .exit)) (now (serial .entry)) (now (count .entry)) (now (child .entry)) (now (partial .entry))))
+        ≡ step (pass (backward-to-mark (operand root))) (machine tape (arrays (now (value .entry)) (now (adjoint .entry)) (now (serial .entry)) (now (count .entry)) (now (child .entry)) (now (partial .entry)))) ⌝ }
+{
+    run(
+        Pass::BackwardToMark,
+        tape,
+        value,
+        adjoint,
+        serial,
+        count,
+        child,
+        partial,
+        root,
+    )
+}
+
+// Sets the root's adjoint to one and walks from the mark down to the first node, wherever the root lies. Refuses as `backward` does.
+pub fn backward_mark_to_start(
+    tape: Tape,
+    value: &[f64],
+    adjoint: &mut [f64],
+    serial: &[u64],
+    count: &[u8],
+    child: &[u16],
+    partial: &[f64],
+    root: Operand,
+) -> Passed
+    ensures { λ x. ⌜
+        passed-back x (machine tape (arrays {N = floats} (now (value .entry)) (now (adjoint .exit)) (now (serial .entry)) (now (count .entry)) (now (child .entry)) (now (partial .entry))))
+        ≡ step (pass (backward-mark-to-start (operand root))) (machine tape (arrays (now (value .entry)) (now (adjoint .entry)) (now (serial .entry)) (now (count .entry)) (now (child .entry)) (now (partial .entry)))) ⌝ }
+{
+    run(
+        Pass::BackwardMarkToStart,
+        tape,
+        value,
+        adjoint,
+        serial,
+        count,
+        child,
+        partial,
+        root,
+    )
+}
+
+// Walks from the last node down to the mark, with no root. Refuses 1 and 7.
+pub fn propagate_to_mark(
+    tape: Tape,
+    value: &[f64],
+    adjoint: &mut [f64],
+    serial: &[u64],
+    count: &[u8],
+    child: &[u16],
+    partial: &[f64],
+) -> Passed
+    ensures { λ x. ⌜
+        passed-back x (machine tape (arrays {N = floats} (now (value .entry)) (now (adjoint .exit)) (now (serial .entry)) (now (count .entry)) (now (child .entry)) (now (partial .entry))))
+        ≡ step (pass propagate-to-mark) (machine tape (arrays (now (value .entry)) (now (adjoint .entry)) (now (serial .entry)) (now (count .entry)) (now (child .entry)) (now (partial .entry)))) ⌝ }
+{
+    run(
+        Pass::PropagateToMark,
+        tape,
+        value,
+        adjoint,
+        serial,
+        count,
+        child,
+        partial,
+        Operand::Number(0.0),
+    )
+}
+
+// Walks from the mark down to the first node, with no root. Refuses 1 and 7.
+pub fn propagate_mark_to_start(
+    tape: Tape,
+    value: &[f64],
+    adjoint: &mut [f64],
+    serial: &[u64],
+    count: &[u8],
+    child: &[u16],
+    partial: &[f64],
+) -> Passed
+    ensures { λ x. ⌜
+        passed-back x (machine tape (arrays {N = floats} (now (value .entry)) (now (adjoint .exit)) (now (serial .entry)) (now (count .entry)) (now (child .entry)) (now (partial .entry))))
+        ≡ step (pass propagate-mark-to-start) (machine tape (arrays (now (value .entry)) (now (adjoint .entry)) (now (serial .entry)) (now (count .entry)) (now (child .entry)) (now (partial .entry)))) ⌝ }
+{
+    run(
+        Pass::PropagateMarkToStart,
+        tape,
+        value,
+        adjoint,
+        serial,
+        count,
+        child,
+        partial,
+        Operand::Number(0.0),
+    )
+}
+
+fn run(
+    which: Pass,
+    tape: Tape,
+    value: &[f64],
+    adjoint: &mut [f64],
+    serial: &[u64],
+    count: &[u8],
+    child: &[u16],
+    partial: &[f64],
+    root: Operand,
+) -> Passed
+    ensures { λ x. ⌜
+        passed-back x (machine tape (arrays {N = floats} (now (value .entry)) (now (adjoint .exit)) (now (serial .entry)) (now (count .entry)) (now (child .entry)) (now (partial .entry))))
+        ≡ step (pass (pass-of which root)) (machine tape (arrays (now (value .entry)) (now (adjoint .entry)) (now (serial .entry)) (now (count .entry)) (now (child .entry)) (now (partial .entry)))) ⌝ }
+{
+    let planned = crate::planning::plan(
+        which,
+        tape,
+        value,
+        adjoint,
+        serial,
+        count,
+        child,
+        partial,
+        root,
+    );
+    carry_out(planned, adjoint, count, child, partial)
+}
+
+// Walks as planned, whatever state, values and serials the caller keeps beside these arrays.
+fn carry_out(
+    planned: Planned,
+    adjoint: &mut [f64],
+    count: &[u8],
+    child: &[u16],
+    partial: &[f64],
+) -> Passed
+    requires { ⌜ Ready planned (now adjoint) (now count) (now child) (now partial) ⌝ }
+    ensures { λ x. ⌜ ((t : Tape) (v : List Float) (s : List ℕ)
+        → passed-back x (machine t (arrays {N = floats} v (now (adjoint .exit)) s (now (count .entry)) (now (child .entry)) (now (partial .entry))))
+        ≡ carried-out planned (machine t (arrays v (now (adjoint .entry)) s (now (count .entry)) (now (child .entry)) (now (partial .entry))))) ⌝ }
+{
+    match planned {
+        Planned::Refused(refusal) => Passed::Refused(refusal),
+        Planned::Unrooted(span) => {
+            Passed::Visited(crate::walking::walk(span, adjoint, count, child, partial))
+        }
+        Planned::Rooted(root, span) => {
+            let at = root.index;
+            adjoint[at] = 1.0;
+            Passed::Visited(crate::walking::walk(span, adjoint, count, child, partial))
+        }
+    }
+}

@@ -1,0 +1,199 @@
+// Planning a pass: every refusal is settled here, with the root and the range, before anything is written.
+use tape::Handle;
+use tape::Lookup;
+use tape::MOST_EDGES;
+use tape::Operand;
+use tape::Refusal;
+use tape::Tape;
+ghost use Prim.Native.Nat.{_≤_};
+ghost use mathlib.Core.Path.{_≡_};
+ghost use mathlib.Core.Bool.{cond};
+ghost use mathlib.Core.List.{[], _∷_};
+ghost use Rattle.tape.specs.Numbers.{floats};
+ghost use Rattle.tape.specs.Machine.{arrays, machine};
+ghost use Rattle.tape.specs.Handles.{node, operand};
+ghost use Rattle.tape.specs.Calls.{step, pass, plan as Calls·plan};
+ghost use Rattle.dual.specs.Inner.{EdgeRoom, Within, Ready, pass-of, found-root, span-of, carried-out, all-sound, sound-edges};
+
+// The five passes, under the names of their calls.
+pub(crate) enum Pass {
+    Backward,
+    BackwardToMark,
+    BackwardMarkToStart,
+    PropagateToMark,
+    PropagateMarkToStart,
+}
+
+// The nodes from end - 1 down to from.
+pub(crate) struct Span {
+    pub from: usize,
+    pub end: usize,
+}
+
+// What a pass is to do: set the adjoint of its root to one, if it has one, and walk; or its refusal.
+pub(crate) enum Planned {
+    Refused(Refusal),
+    Rooted(Handle, Span),
+    Unrooted(Span),
+}
+
+// A pass's root: live, or none, or refused.
+pub(crate) enum Root {
+    Refused(Refusal),
+    None,
+    At(Handle),
+}
+
+// Stands where a pass has no root.
+const NO_ROOT: Handle = Handle {
+    index: 0,
+    serial: 0,
+};
+
+// Tests everything that the pass can be refused for.
+pub(crate) fn plan(
+    which: Pass,
+    tape: Tape,
+    value: &[f64],
+    adjoint: &[f64],
+    serial: &[u64],
+    count: &[u8],
+    child: &[u16],
+    partial: &[f64],
+    root: Operand,
+) -> Planned
+    ensures { λ x. ⌜
+        carried-out x (machine tape (arrays {N = floats} (now (value .entry)) (now (adjoint .entry)) (now (serial .entry)) (now (count .entry)) (now (child .entry)) (now (partial .entry))))
+        ≡ step (pass (pass-of which root)) (machine tape (arrays (now (value .entry)) (now (adjoint .entry)) (now (serial .entry)) (now (count .entry)) (now (child .entry)) (now (partial .entry)))) ⌝ }
+    ensures { λ x. ⌜ Ready x (now (adjoint .entry)) (now (count .entry)) (now (child .entry)) (now (partial .entry)) ⌝ }
+{
+    if !tape.admits(value, adjoint, serial, count, child, partial) {
+        return Planned::Refused(Refusal::Misshapen);
+    }
+    match find_root(which, root, tape, serial) {
+        Root::Refused(refusal) => Planned::Refused(refusal),
+        Root::None => without_root(range_of(which, tape, NO_ROOT), count, child),
+        Root::At(handle) => with_root(handle, range_of(which, tape, handle), count, child),
+    }
+}
+
+// The root, if the pass has one: a number is refused, and so is a handle that is not live.
+fn find_root(which: Pass, root: Operand, tape: Tape, serial: &[u64]) -> Root
+    ensures { λ x. ⌜ x ≡ found-root (tape .length) (now (serial .entry)) (Calls·plan (pass-of which root) tape .root) ⌝ }
+{
+    match which {
+        Pass::Backward => find_operand(root, tape.length, serial),
+        Pass::BackwardToMark => find_operand(root, tape.length, serial),
+        Pass::BackwardMarkToStart => find_operand(root, tape.length, serial),
+        Pass::PropagateToMark => Root::None,
+        Pass::PropagateMarkToStart => Root::None,
+    }
+}
+
+fn find_operand(root: Operand, nodes: usize, serial: &[u64]) -> Root
+    ensures { λ x. ⌜ x ≡ found-root nodes (now (serial .entry)) (operand root ∷ []) ⌝ }
+{
+    match root {
+        Operand::Number(_) => Root::Refused(Refusal::Detached),
+        Operand::Node(handle) => find_node(handle, nodes, serial),
+    }
+}
+
+fn find_node(handle: Handle, nodes: usize, serial: &[u64]) -> Root
+    ensures { λ x. ⌜ x ≡ found-root nodes (now (serial .entry)) (node handle ∷ []) ⌝ }
+{
+    match handle.lookup(nodes, serial) {
+        Lookup::NotLive => Root::Refused(Refusal::NotLive),
+        Lookup::Live => Root::At(handle),
+    }
+}
+
+// The range that the pass walks, with its root at the handle.
+fn range_of(which: Pass, tape: Tape, handle: Handle) -> Span
+    requires { ⌜ handle .index ≤ 65535 ⌝ }
+    ensures { λ x. ⌜ x ≡ span-of (Calls·plan (pass-of which (Operand.Node handle)) tape) ⌝ }
+{
+    match which {
+        Pass::Backward => Span {
+            from: 0,
+            end: handle.index + 1,
+        },
+        Pass::BackwardToMark => to_mark(tape),
+        Pass::BackwardMarkToStart => mark_to_start(tape),
+        Pass::PropagateToMark => to_mark(tape),
+        Pass::PropagateMarkToStart => mark_to_start(tape),
+    }
+}
+
+fn to_mark(tape: Tape) -> Span
+    ensures { λ x. ⌜ x ≡ record { from = tape .mark; end = tape .length } ⌝ }
+{
+    Span {
+        from: tape.mark,
+        end: tape.length,
+    }
+}
+
+fn mark_to_start(tape: Tape) -> Span
+    ensures { λ x. ⌜ x ≡ record { from = 0; end = tape .mark } ⌝ }
+{
+    Span {
+        from: 0,
+        end: tape.mark,
+    }
+}
+
+fn with_root(handle: Handle, span: Span, count: &[u8], child: &[u16]) -> Planned
+    requires { ⌜ Within span (now count) (now child) ⌝ }
+    ensures { λ x. ⌜ x ≡ cond (all-sound (now (count .entry)) (now (child .entry)) span) (Planned.Rooted handle span) (Planned.Refused Refusal.UnsoundEdge) ⌝ }
+{
+    if is_sound_between(span, count, child) {
+        return Planned::Rooted(handle, span);
+    }
+    Planned::Refused(Refusal::UnsoundEdge)
+}
+
+fn without_root(span: Span, count: &[u8], child: &[u16]) -> Planned
+    requires { ⌜ Within span (now count) (now child) ⌝ }
+    ensures { λ x. ⌜ x ≡ cond (all-sound (now (count .entry)) (now (child .entry)) span) (Planned.Unrooted span) (Planned.Refused Refusal.UnsoundEdge) ⌝ }
+{
+    if is_sound_between(span, count, child) {
+        return Planned::Unrooted(span);
+    }
+    Planned::Refused(Refusal::UnsoundEdge)
+}
+
+// Whether every node of the range can be walked.
+fn is_sound_between(span: Span, count: &[u8], child: &[u16]) -> bool
+    requires { ⌜ Within span (now count) (now child) ⌝ }
+    ensures { λ x. ⌜ x ≡ all-sound (now (count .entry)) (now (child .entry)) span ⌝ }
+{
+    let mut i = span.from;
+    while i < span.end {
+        if !is_sound(i, count, child) {
+            return false;
+        }
+        i += 1;
+    }
+    true
+}
+
+// Whether a node has at most two edges, each to a node below it.
+fn is_sound(i: usize, count: &[u8], child: &[u16]) -> bool
+    requires { ⌜ EdgeRoom i (now count) (now child) ⌝ }
+    ensures { λ x. ⌜ x ≡ sound-edges (now (count .entry)) (now (child .entry)) i ⌝ }
+{
+    let edges = count[i] as usize;
+    if MOST_EDGES < edges {
+        return false;
+    }
+    let end = MOST_EDGES * i + edges;
+    let mut slot = MOST_EDGES * i;
+    while slot < end {
+        if i <= child[slot] as usize {
+            return false;
+        }
+        slot += 1;
+    }
+    true
+}

@@ -1,0 +1,36 @@
+-- Runs of stores: two that follow each other are one, and the last of a run may be made first.
+use Prim.Native.Nat.{ℕ, suc, _+_}
+use native.Mathlib.Nat.{add-zero}
+use native.Mathlib.Omega.{arith}
+use mathlib.Core.Path.{_≡_}
+use mathlib.Core.List.{List, [], _∷_, _++_, append-assoc}
+use lib.ListN.{length, set, length-append}
+use lib.Seq.{sets, set-comm}
+use Rattle.listing.specs.Inner.{Wrote}
+
+sets-append : (l : List ℕ) (i : ℕ) (vs ws : List ℕ) → sets (sets l i vs) (i + length vs) ws ≡ sets l i (vs ++ ws)
+sets-append l i [] ws = rw add-zero
+sets-append l i (v ∷ vs) ws = let e : i + suc (length vs) ≡ suc i + length vs = omega arith in rw e (sets-append (set l i v) (suc i) vs ws)
+
+pub last-first : (l : List ℕ) (i : ℕ) (vs : List ℕ) (v : ℕ) → sets (set l (i + length vs) v) i vs ≡ sets l i (vs ++ (v ∷ []))
+last-first l i [] v = rw add-zero
+last-first l i (w ∷ vs) v =
+    let e : i + suc (length vs) ≡ suc i + length vs = omega arith in
+    rw (e, set-comm l (suc i + length vs) i v w (λ q. omega arith)) (last-first (set l i w) (suc i) vs v)
+
+pub then : {l m n : List ℕ} {i j k : ℕ} {vs ws : List ℕ} → Wrote l i vs m j → Wrote m j ws n k → Wrote l i (vs ++ ws) n k
+then {l} {m} {n} {i} {j} {k} {vs} {ws} a b = record { bytes = cc (sets-append l i vs ws); behind = omega (arith, length-append vs ws) }
+
+pub then-two : {l m n : List ℕ} {i j k : ℕ} {us : List ℕ} → Wrote l i us m j → (vs ws : List ℕ) → Wrote m j (vs ++ ws) n k → Wrote l i (us ++ vs ++ ws) n k
+then-two {us = us} a vs ws b = rw (append-assoc us vs ws) (then a b)
+
+-- where the rest, written from here on, makes the whole
+pub record Left (before : List ℕ) (at : ℕ) (whole after : List ℕ) (here : ℕ) (rest : List ℕ) : Type 0 where
+  pub bytes : sets after here rest ≡ sets before at whole
+  pub behind : here + length rest ≡ at + length whole
+
+pub less-left : {l m n : List ℕ} {i j k : ℕ} {whole vs ws : List ℕ} → Left l i whole m j (vs ++ ws) → Wrote m j vs n k → Left l i whole n k ws
+less-left {m = m} {j = j} {vs = vs} {ws = ws} a b = record { bytes = cc (sets-append m j vs ws); behind = omega (arith, length-append vs ws) }
+
+pub none-left : {l m : List ℕ} {i j : ℕ} {whole : List ℕ} → Left l i whole m j [] → Wrote l i whole m j
+none-left a = record { bytes = a .bytes; behind = omega arith }

@@ -1,0 +1,151 @@
+-- A call that is not refused does what `carried` says, a range that is cut in two is walked in two, and what a pass walks ends at or below the length.
+use Prim.Native.Nat.{ℕ, suc, _+_, _-_, _≤_, zero-le}
+use native.Mathlib.Nat.{zero-add, add-zero, add-suc, suc-add, sub-self, add-sub-of-le}
+use native.Mathlib.Omega.{arith}
+use mathlib.Core.Path.{_≡_, refl, sym, ap, subst, _∙_}
+use mathlib.Core.Bool.{true, false, true≢false, or-false}
+use mathlib.Core.List.{List, [], _∷_, _++_, map, map-append}
+use borrow.Author.Tests.{not-true, not-false}
+use lib.ListN.{length, length-map}
+use Rattle.tape.specs.Numbers.{Numbers}
+use Rattle.tape.specs.Machine.{Arrays, Machine, machine, all, fits}
+use Rattle.tape.specs.Handles.{plain, node, handles}
+use Rattle.tape.specs.Walk.{Edge, walk, edges-at, indexes, sum, visited, sound}
+use Rattle.tape.specs.Answers.{Answer, number, done, counted}
+use Rattle.tape.specs.Calls.{reset-mark, Pass, backward, backward-to-mark, backward-mark-to-start, propagate-to-mark, propagate-mark-to-start, Call, move, operate, clear, pass, value-of, adjoint-of, is-live, list, moved, with-adjoints, plan, asked, any-stale, refusals, carried, step, run}
+use Rattle.tape.specs.Kept.{fresh, after}
+use Rattle.tape.specs.Passes.{EmptyRange, BothRanges, NeverUnsound, Unrefused, counts, in-one, in-two}
+use Rattle.tape.specs.declared.errors.Refusal.the-variants.{UnsoundEdge}
+use Rattle.tape.proofs.OneToOne.{by-number, at-refusal, told}
+use Rattle.tape.proofs.Ranges.{length-indexes, indexes-cut, sum-append, all-append, all-below}
+use Rattle.tape.proofs.Recording.{SoundNodes, recording}
+use Rattle.tape.proofs.Steps.{Hit, here, there, Passed, by-refusal, lives-told}
+use Rattle.tape.proofs.Tests.{by-test, Fit, fit, state-fit-so, refits}
+
+-- ---- empty ranges
+
+pub empty-range : EmptyRange
+unfolding step
+empty-range = record { to-start = λ M shape e. rw (shape, e); to-mark = λ M shape e. rw (shape, e, sub-self) }
+
+-- ---- both ranges
+
+pub walk-append : {N : Numbers} (i : ℕ) (low high : List (List (Edge N))) (adjoints : List (N .Number)) → walk i (low ++ high) adjoints ≡ walk i low (walk (i + length low) high adjoints)
+walk-append i [] high adjoints = rw add-zero
+walk-append i (es ∷ low) high adjoints = rw (walk-append (suc i) low high adjoints, suc-add, add-suc)
+
+-- the range from i to n, cut at m
+module _ {N : Numbers} (A : Arrays N) (i m n : ℕ) (l : i ≤ m) (h : m ≤ n) where
+  pub walk-cut : (adjoints : List (N .Number)) → walk i (map (edges-at A) (indexes i (n - i))) adjoints ≡ walk i (map (edges-at A) (indexes i (m - i))) (walk m (map (edges-at A) (indexes m (n - m))) adjoints)
+  walk-cut adjoints = rw (indexes-cut i m n l h, map-append, walk-append, length-map, length-indexes, add-sub-of-le l)
+
+  pub visited-cut : visited A (indexes i (n - i)) ≡ sum (visited A (indexes m (n - m)) ∷ visited A (indexes i (m - i)) ∷ [])
+  visited-cut = rw (indexes-cut i m n l h, map-append, sum-append) (omega arith)
+
+  pub sound-cut : all (map (sound A) (indexes m (n - m))) ≡ true → all (map (sound A) (indexes i (m - i))) ≡ true → all (map (sound A) (indexes i (n - i))) ≡ true
+  sound-cut high low = rw (indexes-cut i m n l h, map-append, all-append, low) high
+
+-- x is what a call does that is not refused
+record Accepted {N : Numbers} (c : Call N) (M : Machine N) (x : Answer N × Machine N) : Type 0 where
+  passed : Passed c M
+  carries : x ≡ carried c M
+
+accepted : {N : Numbers} (c : Call N) (M : Machine N) → step c M .0 .number ≡ 0 → Accepted c M (step c M)
+accepted c M =
+    by-refusal
+    (λ x. x .0 .number ≡ 0 → Accepted c M x)
+    c
+    M
+    (λ r _ e. let never : _≡_ {A = ℕ} 0 1 = sym (at-refusal 1 (λ _. 0) r) ∙ ap (by-number 1 (λ _. 0)) e in absurd (omega arith))
+    (λ p _. record { passed = p; carries = refl })
+
+two-calls : {N : Numbers} (c d : Call N) (M : Machine N) {x y : Answer N × Machine N} → step c M ≡ x → step d (x .1) ≡ y → run (c ∷ d ∷ []) M ≡ (x .0 ∷ y .0 ∷ [], y .1)
+two-calls c d M {x} e f = ap (λ s. (s .0 ∷ step d (s .1) .0 ∷ [], step d (s .1) .1)) e ∙ ap (λ s. (x .0 ∷ s .0 ∷ [], s .1)) f
+
+abbrev reset : {N : Numbers} → Machine N → Machine N
+reset M = machine (moved reset-mark (M .state)) (M .lent)
+
+module _ {N : Numbers} (M : Machine N) (f : Fit M) where
+  resets : step (move reset-mark) M ≡ (done, reset M)
+  unfolding step
+  resets = rw (state-fit-so 65535 (M .state) (record { length = omega arith; mark = omega arith; next = f .state .next }))
+
+  walks-whole : all (map (sound (M .lent)) (indexes 0 (M .state .length - 0))) ≡ true → step (pass propagate-to-mark) (reset M) ≡ carried (pass propagate-to-mark) (reset M)
+  unfolding step
+  walks-whole every = rw (refits M (reset M .state) f (record { length = omega arith; mark = zero-le; next = f .state .next }), every)
+
+-- the answers of two passes as those of one, and the mark reset
+abbrev joined : {N : Numbers} → List (Answer N) × Machine N → List (Answer N) × Machine N
+joined (answers, M) = (done ∷ counted (counts answers) ∷ [], reset M)
+
+one-walk : {N : Numbers} (M : Machine N) → Unrefused (run (in-two N) M .0) → run (in-one N) M ≡ joined (run (in-two N) M)
+one-walk M (u, (v, _)) =
+    let high = accepted (pass propagate-to-mark) M u in
+    let low = accepted (pass propagate-mark-to-start) (carried (pass propagate-to-mark) M .1) (rw (high .carries) at v) in
+    let f : Fit M = fit M (high .passed .shape) in
+    let mark = M .state .mark in
+    let end = M .state .length in
+    let every = sound-cut (M .lent) 0 mark end zero-le (f .state .mark) (high .passed .sound-range) (low .passed .sound-range) in
+    let visits = visited-cut (M .lent) 0 mark end zero-le (f .state .mark) in
+    let walks = walk-cut (M .lent) 0 mark end zero-le (f .state .mark) (M .lent .adjoint) in
+    two-calls (move reset-mark) (pass propagate-to-mark) M (resets M f) (walks-whole M f every)
+    ∙ (λ i. (done ∷ counted (visits i) ∷ [], with-adjoints (reset M) (walks i)))
+    ∙ sym (ap joined (two-calls (pass propagate-to-mark) (pass propagate-mark-to-start) M (high .carries) (low .carries)))
+
+pub both-ranges : BothRanges
+both-ranges = record {
+  of-nodes = walk-append;
+  unrefused = λ M u. subst (λ x. Unrefused (x .0)) (sym (one-walk M u)) (refl, (refl, tt));
+  arrays = λ M u. ap (λ x. x .1 .lent) (one-walk M u);
+  visits = λ M u. ap (λ x. counts (x .0)) (one-walk M u) ∙ simp (zero-add, add-zero);
+}
+
+-- ---- sound tapes
+
+ends : {N : Numbers} (p : Pass N) (M : Machine N) → Fit M → any-stale M (handles (plan p (M .state) .root)) ≡ false → plan p (M .state) .end ≤ M .state .length
+ends (backward (plain x)) M f all-live = omega arith
+ends (backward (node h)) M f all-live = let l = lives-told (M .state .length) (M .lent .serial) h (not-false _ (rw or-false at all-live)) in omega arith
+ends (backward-to-mark x) M f all-live = omega arith
+ends (backward-mark-to-start x) M f all-live = omega arith
+ends propagate-to-mark M f all-live = omega arith
+ends propagate-mark-to-start M f all-live = omega arith
+
+module _ {N : Numbers} (M : Machine N) (nodes : SoundNodes M) where
+  range-sound : (c : Call N) → fits (asked c (M .state) .arrays) M ≡ true → any-stale M (handles (asked c (M .state) .operands)) ≡ false → all (map (sound (M .lent)) (asked c (M .state) .range)) ≡ true
+  range-sound (pass p) shape all-live =
+      let P = plan p (M .state) in
+      let end : P .end ≤ M .state .length = ends p M (fit M shape) all-live in
+      all-below (sound (M .lent)) (P .from) (P .end - P .from) (λ j l h. nodes j (omega arith))
+  range-sound (move m) _ _ = refl
+  range-sound (operate op left right g) _ _ = refl
+  range-sound clear _ _ = refl
+  range-sound (value-of x) _ _ = refl
+  range-sound (adjoint-of x) _ _ = refl
+  range-sound (is-live x) _ _ = refl
+  range-sound (list bytes) _ _ = refl
+
+  not-hit : (c : Call N) → Hit UnsoundEdge (refusals (asked c (M .state)) M) → ⊥
+  not-hit c (there shape (there _ (there all-live (there _ (there _ (there _ (here unsound))))))) = true≢false (sym (range-sound c (not-false _ shape) all-live) ∙ not-true _ unsound)
+  not-hit c (there _ (there _ (there _ (there _ (there _ (there _ (there _ (there _ h)))))))) = elim h [ ]
+
+carried-number : {N : Numbers} (c : Call N) (M : Machine N) → carried c M .0 .number ≡ 0
+carried-number {N} (operate op left right g) M = by-test (λ (x : Answer N × Machine N). x .0 .number ≡ 0) (M .state .active) (λ _. refl) (λ _. refl)
+carried-number (move m) M = refl
+carried-number clear M = refl
+carried-number (pass p) M = refl
+carried-number (value-of x) M = refl
+carried-number (adjoint-of x) M = refl
+carried-number (is-live x) M = refl
+carried-number (list bytes) M = refl
+
+pub never-unsound : NeverUnsound
+never-unsound = record {
+  never-refused-7 = λ A before c.
+      let M = after before (fresh A) in
+      by-refusal
+      (λ x. x .0 .number ≡ 7 → ⊥)
+      c
+      M
+      (λ r h e. not-hit M (recording .sound-nodes A before) c (subst (λ q. Hit q (refusals (asked c (M .state)) M)) (told .numbers r UnsoundEdge e) h))
+      (λ _ e. omega (arith, carried-number c M));
+}
