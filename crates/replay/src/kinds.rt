@@ -348,7 +348,3 @@ pub(crate) fn is_digested(kind: usize) -> bool {
 pub(crate) fn is_pass(kind: usize) -> bool {
     (BACKWARD <= kind) & (kind <= PROPAGATE_MARK_TO_START)
 }
-
-pub(crate) fn is_move(kind: usize) -> bool {
-    (CALLS <= kind) & (kind < BACKWARD)
-}

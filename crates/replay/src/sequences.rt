@@ -7,6 +7,9 @@ use crate::calls::Said;
 use crate::kinds::END;
 use crate::kinds::KINDS;
 use crate::kinds::STALE;
+use crate::nodes::NO_CHILD;
+use crate::nodes::NO_COUNT;
+use crate::nodes::UNLIKELY;
 use crate::report;
 use crate::session;
 use crate::session::Heard;
@@ -42,12 +45,12 @@ struct Run {
 }
 
 pub(crate) fn replay(list: &[u8], lines: &[u8], tally: Tally) -> Tally {
-    let mut value = [0.0; CAPACITY];
-    let mut adjoint = [0.0; CAPACITY];
-    let mut serial = [0u64; CAPACITY];
-    let mut count = [0u8; CAPACITY];
-    let mut child = [0u16; SLOTS];
-    let mut partial = [0.0; SLOTS];
+    let mut value = [UNLIKELY; CAPACITY];
+    let mut adjoint = [UNLIKELY; CAPACITY];
+    let mut serial = [1u64; CAPACITY];
+    let mut count = [NO_COUNT; CAPACITY];
+    let mut child = [NO_CHILD; SLOTS];
+    let mut partial = [UNLIKELY; SLOTS];
     let run = each_line(
         Run::new(tally),
         list,

@@ -13,7 +13,14 @@ use crate::words::word_of;
 use dual::Cleared;
 use dual::Passed;
 use dual::Read;
+use dual::clearing::reset_adjoints;
+use dual::passes::backward;
+use dual::passes::backward_mark_to_start;
+use dual::passes::backward_to_mark;
+use dual::passes::propagate_mark_to_start;
+use dual::passes::propagate_to_mark;
 use expr::Recorded;
+use expr::recording::record;
 use tape::Handle;
 use tape::Moved;
 use tape::Operand;
@@ -51,7 +58,7 @@ pub(crate) fn carry_out(
     requires { ⌜ (23 ≤ kind) × (kind < 47) ⌝ }
 {
     if kind < CALLS {
-        return recorded(expr::recording::record(
+        return after_recording(record(
             tape,
             value,
             adjoint,
@@ -65,7 +72,7 @@ pub(crate) fn carry_out(
             NOTHING,
         ));
     }
-    let heard = carry_out_beside(
+    carry_out_other(
         tape,
         value,
         adjoint,
@@ -75,15 +82,29 @@ pub(crate) fn carry_out(
         partial,
         kind,
         left,
-    );
+    )
+}
+
+// A call that records nothing, and so writes no array but the adjoints.
+fn carry_out_other(
+    tape: Tape,
+    value: &[f64],
+    adjoint: &mut [f64],
+    serial: &[u64],
+    count: &[u8],
+    child: &[u16],
+    partial: &[f64],
+    kind: usize,
+    x: Operand,
+) -> Heard {
+    let heard = answer(tape, value, adjoint, serial, count, child, partial, kind, x);
     if kinds::is_digested(kind) {
-        return with_digests(heard, value, adjoint);
+        return with_digests(heard, value, &*adjoint);
     }
     heard
 }
 
-// A call that records nothing, so that it writes no array but the adjoints.
-fn carry_out_beside(
+fn answer(
     tape: Tape,
     value: &[f64],
     adjoint: &mut [f64],
@@ -95,21 +116,19 @@ fn carry_out_beside(
     x: Operand,
 ) -> Heard {
     if kinds::is_pass(kind) {
-        return passed(
-            tape,
-            pass(tape, value, adjoint, serial, count, child, partial, kind, x),
-        );
+        let passed = pass(tape, value, adjoint, serial, count, child, partial, kind, x);
+        return after_pass(tape, passed);
     }
     match kind {
-        RESET_ADJOINTS => cleared(
+        RESET_ADJOINTS => after_clearing(
             tape,
-            dual::clearing::reset_adjoints(tape, value, adjoint, serial, count, child, partial),
+            reset_adjoints(tape, value, adjoint, serial, count, child, partial),
         ),
-        VALUE => read(
+        VALUE => after_read(
             tape,
             dual::reading::value(tape, value, &*adjoint, serial, count, child, partial, x),
         ),
-        ADJOINT => read(
+        ADJOINT => after_read(
             tape,
             dual::reading::adjoint(tape, value, &*adjoint, serial, count, child, partial, x),
         ),
@@ -129,72 +148,41 @@ fn pass(
     root: Operand,
 ) -> Passed {
     match kind {
-        BACKWARD => dual::passes::backward(
-            tape,
-            value,
-            adjoint,
-            serial,
-            count,
-            child,
-            partial,
-            root,
-        ),
-        BACKWARD_TO_MARK => dual::passes::backward_to_mark(
-            tape,
-            value,
-            adjoint,
-            serial,
-            count,
-            child,
-            partial,
-            root,
-        ),
-        BACKWARD_MARK_TO_START => dual::passes::backward_mark_to_start(
-            tape,
-            value,
-            adjoint,
-            serial,
-            count,
-            child,
-            partial,
-            root,
-        ),
-        PROPAGATE_TO_MARK => {
-            dual::passes::propagate_to_mark(tape, value, adjoint, serial, count, child, partial)
+        BACKWARD => backward(tape, value, adjoint, serial, count, child, partial, root),
+        BACKWARD_TO_MARK => {
+            backward_to_mark(tape, value, adjoint, serial, count, child, partial, root)
         }
-        _ => dual::passes::propagate_mark_to_start(
-            tape,
-            value,
-            adjoint,
-            serial,
-            count,
-            child,
-            partial,
-        ),
+        BACKWARD_MARK_TO_START => {
+            backward_mark_to_start(tape, value, adjoint, serial, count, child, partial, root)
+        }
+        PROPAGATE_TO_MARK => {
+            propagate_to_mark(tape, value, adjoint, serial, count, child, partial)
+        }
+        _ => propagate_mark_to_start(tape, value, adjoint, serial, count, child, partial),
     }
 }
 
 // At the end of a sequence nothing is called.
 fn moved(tape: Tape, kind: usize) -> Heard {
     match kind {
-        START_RECORDING => after(tape.start_recording()),
-        STOP_RECORDING => after(tape.stop_recording()),
-        SET_MARK => after(tape.set_mark()),
-        RESET_MARK => after(tape.reset_mark()),
-        REWIND_TO_MARK => after(tape.rewind_to_mark()),
-        REWIND_TO_INIT => after(tape.rewind_to_init()),
+        START_RECORDING => after_move(tape.start_recording()),
+        STOP_RECORDING => after_move(tape.stop_recording()),
+        SET_MARK => after_move(tape.set_mark()),
+        RESET_MARK => after_move(tape.reset_mark()),
+        REWIND_TO_MARK => after_move(tape.rewind_to_mark()),
+        REWIND_TO_INIT => after_move(tape.rewind_to_init()),
         _ => answered(tape, NO_WORD),
     }
 }
 
-fn after(answer: Moved) -> Heard {
+fn after_move(answer: Moved) -> Heard {
     match answer {
         Moved::Done(tape) => answered(tape, NO_WORD),
         Moved::Refused(refusal, tape) => refused(tape, refusal),
     }
 }
 
-fn recorded(answer: Recorded) -> Heard {
+fn after_recording(answer: Recorded) -> Heard {
     match answer {
         Recorded::Node(x, handle, tape) => with_node(number(tape, BARE, word_of(x)), handle),
         Recorded::Detached(x, tape) => number(tape, DETACHED, word_of(x)),
@@ -202,21 +190,21 @@ fn recorded(answer: Recorded) -> Heard {
     }
 }
 
-fn passed(tape: Tape, answer: Passed) -> Heard {
+fn after_pass(tape: Tape, answer: Passed) -> Heard {
     match answer {
         Passed::Visited(edges) => number(tape, VISITED, edges as u64),
         Passed::Refused(refusal) => refused(tape, refusal),
     }
 }
 
-fn cleared(tape: Tape, answer: Cleared) -> Heard {
+fn after_clearing(tape: Tape, answer: Cleared) -> Heard {
     match answer {
         Cleared::Done => answered(tape, NO_WORD),
         Cleared::Refused(refusal) => refused(tape, refusal),
     }
 }
 
-fn read(tape: Tape, answer: Read) -> Heard {
+fn after_read(tape: Tape, answer: Read) -> Heard {
     match answer {
         Read::Number(x) => number(tape, BARE, word_of(x)),
         Read::Refused(refusal) => refused(tape, refusal),
