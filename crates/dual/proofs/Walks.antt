@@ -1,8 +1,8 @@
 -- A plan carried out: the walk, after the root's adjoint was set to one if there is a root.
 use Prim.Native.Nat.{ℕ, _<_}
 use native.Mathlib.Omega.{arith}
-use mathlib.Core.Path.{_≡_, refl, ap, subst, _∙_}
-use mathlib.Core.List.{List, _∷_}
+use mathlib.Core.Path.{_≡_, subst}
+use mathlib.Core.List.{List}
 use lib.Ieee.{Float}
 use lib.ListN.{length, set, length-set}
 use Rattle.tape.specs.Numbers.{floats}

@@ -8,15 +8,14 @@ use lib.ListN.{length, getD}
 use Rattle.tape.specs.Numbers.{floats}
 use Rattle.tape.specs.Machine.{Arrays, Machine, arrays, slot, all}
 use Rattle.tape.specs.Handles.{Operand, plain, node, operand, lives}
-use Rattle.tape.specs.Walk.{Edge, walk, edges-at, indexes, visited, sound}
+use Rattle.tape.specs.Walk.{walk, edges-at, indexes, visited, sound}
 use Rattle.tape.specs.Answers.{Answer, refused, counted}
-use Rattle.tape.specs.Calls.{Pass, backward, backward-to-mark, backward-mark-to-start, propagate-to-mark, propagate-mark-to-start, Plan, plan, range, walked}
-use Rattle.tape.specs.declared.errors.Refusal.the-variants.{NotLive, Detached, UnsoundEdge}
+use Rattle.tape.specs.Calls.{Pass, backward, backward-to-mark, backward-mark-to-start, propagate-to-mark, propagate-mark-to-start, Plan, range, walked}
+use Rattle.tape.specs.declared.errors.Refusal.the-variants.{NotLive, Detached}
 use Rattle.tape.specs.declared.node.Handle.{Handle}
 use Rattle.tape.specs.declared.node.Lookup.{Lookup}
 use Rattle.tape.specs.declared.node.Lookup.the-variants as lookup
 use Rattle.tape.specs.declared.node.Operand as code
-use Rattle.tape.specs.declared.state.Tape.{Tape}
 use Rattle.dual.specs.declared.reading.Read as read
 use Rattle.dual.specs.declared.reading.Liveness as liveness
 use Rattle.dual.specs.declared.planning.Pass as passes

@@ -1,5 +1,4 @@
 -- What reads, clearing and passes answer, in the machine's terms. None of these calls changes the state, so none hands it back: what it leaves is the state it was given, with the arrays.
-use Prim.Native.Nat.{ℕ}
 use mathlib.Core.Path.{_≡_}
 use Rattle.tape.specs.Numbers.{floats}
 use Rattle.tape.specs.Machine.{Machine}

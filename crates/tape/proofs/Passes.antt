@@ -14,13 +14,25 @@ use Rattle.tape.specs.Walk.{Edge, walk, edges-at, indexes, sum, visited,
 use Rattle.tape.specs.Answers.{Answer, number, done, counted}
 use Rattle.tape.specs.Calls.{reset-mark, Pass, backward, backward-to-mark, backward-mark-to-start, propagate-to-mark, propagate-mark-to-start, Call, move, operate, clear, pass, value-of, adjoint-of, is-live, list, moved, with-adjoints, plan, asked, any-stale, refusals, carried, step, run}
 use Rattle.tape.specs.Kept.{fresh, after}
-use Rattle.tape.specs.Passes.{EmptyRange, BothRanges, NeverUnsound, Unrefused, counts, in-one, in-two}
+use Rattle.tape.specs.Passes.{OnlyAdjoints, EmptyRange, BothRanges, NeverUnsound, Unrefused, counts, in-one, in-two}
 use Rattle.tape.specs.declared.errors.Refusal.the-variants.{UnsoundEdge}
 use Rattle.tape.proofs.OneToOne.{by-number, at-refusal, told}
 use Rattle.tape.proofs.Ranges.{length-indexes, indexes-cut, sum-append, all-append, all-below}
 use Rattle.tape.proofs.Recording.{SoundNodes, recording}
 use Rattle.tape.proofs.Steps.{Hit, here, there, Passed, by-refusal, lives-told}
 use Rattle.tape.proofs.Tests.{by-test, Fit, fit, state-fit-so, refits}
+
+-- ---- what is left alone
+
+pub only-adjoints : OnlyAdjoints
+only-adjoints = record {
+  passes = λ p M. by-refusal (λ x. x .1 ≡ with-adjoints M (x .1 .lent .adjoint)) (pass p) M (λ _ _. refl) (λ _. refl);
+  clearing = λ M. by-refusal (λ x. x .1 ≡ with-adjoints M (x .1 .lent .adjoint)) clear M (λ _ _. refl) (λ _. refl);
+  values = λ x M. by-refusal (λ y. y .1 ≡ M) (value-of x) M (λ _ _. refl) (λ _. refl);
+  adjoints = λ x M. by-refusal (λ y. y .1 ≡ M) (adjoint-of x) M (λ _ _. refl) (λ _. refl);
+  liveness = λ x M. by-refusal (λ y. y .1 ≡ M) (is-live x) M (λ _ _. refl) (λ _. refl);
+  listings = λ bytes M. by-refusal (λ y. y .1 ≡ M) (list bytes) M (λ _ _. refl) (λ _. refl);
+}
 
 -- ---- empty ranges
 

@@ -4,14 +4,14 @@ use native.Mathlib.Nat.{le-refl}
 use native.Mathlib.Omega.{arith}
 use native.Mathlib.Decide.{decLt}
 use mathlib.Core.Path.{_≡_, refl, subst}
-use mathlib.Core.Bool.{Bool, true, false, not, _&&_, _||_, cond, and-eq-true-iff, true≢false}
+use mathlib.Core.Bool.{Bool, true, false, not, _&&_, _||_, cond, true≢false}
 use mathlib.Core.List.{List, [], _∷_, _++_, map, append-nil}
 use mathlib.Core.Option.{Option, none, some}
-use borrow.Author.Tests.{ltb-true, leb-true, eqb-true, eqb-false, lt-ltb, eq-eqb, ne-eqb, not-true, not-false}
+use borrow.Author.Tests.{ltb-true, eqb-true, eqb-false, lt-ltb, eq-eqb, ne-eqb, not-true, not-false}
 use lib.Dec.{ltb, eqb}
 use lib.ListN.{length, getD}
 use Rattle.tape.specs.Numbers.{Numbers}
-use Rattle.tape.specs.Machine.{Machine, arrays, machine, capacity, slot, all, fits, arrays-fit, state-fits}
+use Rattle.tape.specs.Machine.{Machine, arrays, machine, capacity, all, fits}
 use Rattle.tape.specs.Handles.{Operand, plain, node, live, worth, handles, any-plain, lives}
 use Rattle.tape.specs.Operations.{Given, apply, one-sided}
 use Rattle.tape.specs.Walk.{Edge, sound}
@@ -22,7 +22,6 @@ use Rattle.tape.proofs.Tests.{by-test, by-or, every, Fit, fit, state-fi
 use Rattle.tape.specs.declared.errors.Refusal.{Refusal}
 use Rattle.tape.specs.declared.errors.Refusal.the-variants.{Misshapen}
 use Rattle.tape.specs.declared.node.Handle.{Handle}
-use Rattle.tape.specs.declared.state.Tape.{Tape}
 
 -- ---- the first test that hits
 

@@ -1,4 +1,4 @@
--- Document 01's machine. Read in this order: `Numbers`, `Machine`, `Handles`, `Operations`, `Walk`, `Listing`, `Answers`, `Calls`; `Kept` states what is proved of every sequence of calls.
+-- Document 01's machine. Read in this order: `Numbers`, `Machine`, `Handles`, `Operations`, `Walk`, `Listing`, `Answers`, `Calls`; `Kept` and `Passes` state what is proved of calls and sequences of them, and `Rows` has worked ones.
 -- `declared` has the code's own structs and enums, as the checker reads them off src/.
 pub mod Numbers
 pub mod Machine

@@ -1,4 +1,4 @@
--- What is proved of the passes, over any numbers.
+-- What is proved of passes, clearing and reads, over any numbers.
 use Prim.Native.Nat.{ℕ, _+_}
 use mathlib.Core.Path.{_≡_}
 use mathlib.Core.Bool.{true}
@@ -6,10 +6,20 @@ use mathlib.Core.List.{List, [], _∷_, _++_, map}
 use lib.ListN.{length}
 use Rattle.tape.specs.Numbers.{Numbers}
 use Rattle.tape.specs.Machine.{Arrays, Machine, fits}
+use Rattle.tape.specs.Handles.{Operand}
 use Rattle.tape.specs.Walk.{Edge, walk, sum}
 use Rattle.tape.specs.Answers.{Answer, counted}
-use Rattle.tape.specs.Calls.{move, reset-mark, Call, pass, propagate-to-mark, propagate-mark-to-start, step, run}
+use Rattle.tape.specs.Calls.{move, reset-mark, Pass, Call, pass, propagate-to-mark, propagate-mark-to-start, clear, value-of, adjoint-of, is-live, list, with-adjoints, step, run}
 use Rattle.tape.specs.Kept.{fresh, after}
+
+-- passes and clearing change nothing but adjoints, and reads and the listing change nothing. Proved in proofs/Passes.antt
+pub record OnlyAdjoints : Type 1 where
+  pub passes : {N : Numbers} (p : Pass N) (M : Machine N) → let after = step (pass p) M .1 in after ≡ with-adjoints M (after .lent .adjoint)
+  pub clearing : {N : Numbers} (M : Machine N) → let after = step clear M .1 in after ≡ with-adjoints M (after .lent .adjoint)
+  pub values : {N : Numbers} (x : Operand N) (M : Machine N) → step (value-of x) M .1 ≡ M
+  pub adjoints : {N : Numbers} (x : Operand N) (M : Machine N) → step (adjoint-of x) M .1 ≡ M
+  pub liveness : {N : Numbers} (x : Operand N) (M : Machine N) → step (is-live x) M .1 ≡ M
+  pub listings : {N : Numbers} (bytes : ℕ) (M : Machine N) → step (list bytes) M .1 ≡ M
 
 -- a pass without a root over an empty range changes nothing and counts 0. Proved in proofs/Passes.antt
 pub record EmptyRange : Type 1 where

@@ -1,5 +1,5 @@
 -- The chain rule, over any numbers: what a walk does to the adjoints, and how the nodes that it walks are read off the arrays.
-use Prim.Native.Nat.{ℕ, zero, suc, _+_, _-_}
+use Prim.Native.Nat.{ℕ, zero, suc, _+_}
 use mathlib.Core.Bool.{Bool, _&&_}
 use mathlib.Core.List.{List, [], _∷_, map}
 use lib.Dec.{ltb, leb}

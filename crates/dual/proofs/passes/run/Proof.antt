@@ -1,7 +1,6 @@
 -- The plan is the pass, and it is carried out.
 use mathlib.Core.Path.{_∙_}
 use denote.Ref.{now}
-use borrow.Author.Needs.{needs}
 use Rattle.dual.proofs.passes.run.Statement.{statement}
 use Rattle.dual.proofs.passes.run.Tie as tie
 

@@ -5,7 +5,6 @@ use denote.Ref.{now}
 use native.Mathlib.Omega.{arith}
 use borrow.Author.Tests.{not-true, not-false}
 use Rattle.dual.proofs.Loops.{sound-from, room-at, unsound-refused, sound-next, sound-done}
-use borrow.Author.Needs.{needs}
 use Rattle.dual.proofs.planning.is_sound_between.Statement.{statement}
 use Rattle.dual.proofs.planning.is_sound_between.Tie as tie
 

@@ -1,9 +1,7 @@
 -- What is left to be walked (`Walking`).
 use Prim.Native.Nat.{_-_}
 use native.Mathlib.Omega.{arith}
-use denote.Ref.{now}
 use Rattle.dual.proofs.Loops.{Walking, walking, walked-one, all-walked, all-counted, next-room}
-use borrow.Author.Needs.{needs}
 use Rattle.dual.proofs.walking.walk.Statement.{statement}
 use Rattle.dual.proofs.walking.walk.Tie as tie
 
