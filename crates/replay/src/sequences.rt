@@ -22,11 +22,12 @@ use tape::Operand;
 use tape::Tape;
 ghost use Prim.Native.Nat.{_<_};
 
-// More nodes than a sequence has on the tape, and than it records.
+// More nodes than a sequence has on the tape.
 const CAPACITY: usize = 400;
 
 const SLOTS: usize = 2 * CAPACITY;
 
+// More nodes than a sequence records.
 const NODES: usize = 512;
 
 // The number of the refusal that a stale handle gets.
@@ -183,7 +184,7 @@ impl Run {
     }
 
     fn handle(self, serial: u64) -> Handle {
-        if serial >= 512 {
+        if serial >= NODES as u64 {
             return NO_NODE;
         }
         let at = serial as usize;
@@ -213,7 +214,7 @@ impl Run {
         let tape = heard.tape;
         self.tape = tape;
         let node = heard.node;
-        if node.serial >= 512 {
+        if node.serial >= NODES as u64 {
             return self;
         }
         if node.index > 65_535 {
