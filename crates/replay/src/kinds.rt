@@ -213,11 +213,19 @@ pub(crate) fn kind_of(line: &[u8], first: usize, end: usize) -> usize
     KINDS
 }
 
+// The table stands in this function alone, since each one that has it is slow to check.
+fn name_of(kind: usize) -> [u8; WIDTH]
+    requires { ⌜ kind < 47 ⌝ }
+{
+    NAMES[kind]
+}
+
 fn is_named(line: &[u8], kind: usize) -> bool
     requires { ⌜ kind < 47 ⌝ }
 {
+    let name = name_of(kind);
     for at in 0..WIDTH {
-        let byte = NAMES[kind][at];
+        let byte = name[at];
         if byte == b' ' {
             return is_end(line, at);
         }
@@ -236,8 +244,9 @@ pub(crate) fn name_length(kind: usize) -> usize
     requires { ⌜ kind < 47 ⌝ }
     ensures { λ r. ⌜ r ≤ 24 ⌝ }
 {
+    let name = name_of(kind);
     for at in 0..WIDTH {
-        if NAMES[kind][at] == b' ' {
+        if name[at] == b' ' {
             return at;
         }
     }
@@ -247,7 +256,7 @@ pub(crate) fn name_length(kind: usize) -> usize
 pub(crate) fn write_name(kind: usize)
     requires { ⌜ kind < 47 ⌝ }
 {
-    let name = NAMES[kind];
+    let name = name_of(kind);
     write_front(&name, name_length(kind));
 }
 

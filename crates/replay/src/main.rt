@@ -20,6 +20,13 @@ mod words;
 use kinds::Subject;
 
 fn main() {
+    recorded();
+    // Without them, a comparison that sees nothing would pass for one that finds nothing.
+    report::text(b"control: each of these must differ\n");
+    controls();
+}
+
+fn recorded() {
     lists::replay(b"fwd1", Subject::Fwd1, os::open_read(b"fwd1.txt"));
     lists::replay(b"fwd2", Subject::Fwd2, os::open_read(b"fwd2.txt"));
     lists::replay(b"fwd3", Subject::Fwd3, os::open_read(b"fwd3.txt"));
@@ -31,8 +38,9 @@ fn main() {
         os::open_read(b"sequences.txt"),
     );
     lists::replay(b"stale", Subject::Stale, os::open_read(b"stale.txt"));
-    // Without them, a comparison that sees nothing would pass for one that finds nothing.
-    report::text(b"control: each of these must differ\n");
+}
+
+fn controls() {
     lists::replay(b"control", Subject::Fwd1, os::open_read(b"control.txt"));
     lists::replay(
         b"table_control",

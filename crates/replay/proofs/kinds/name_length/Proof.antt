@@ -5,10 +5,10 @@ use Rattle.replay.proofs.kinds.name_length.Statement.{statement}
 use Rattle.replay.proofs.kinds.name_length.Tie as tie
 
 abbrev Inv-loop : tie.InvT-loop
-Inv-loop kind at₀ at = at ≤ 24
+Inv-loop kind name at₀ at = at ≤ 24
 
 abbrev μ-loop : tie.MeasureT-loop
-μ-loop kind at₀ at = 24 - at
+μ-loop kind name at₀ at = 24 - at
 
 pub name-length-spec : {M : Type 1} → statement M
 name-length-spec =
@@ -16,8 +16,7 @@ name-length-spec =
     (tie.spec
     Inv-loop
     μ-loop
-    (λ c. search needs)
-    (λ c. search needs)
+    (λ c κs. search needs)
     (λ c. search needs)
     (λ c. search needs)
     (λ c. search needs)
