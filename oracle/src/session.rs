@@ -65,12 +65,6 @@ impl Session {
         &self.live
     }
 
-    /// How many nodes have been recorded.
-    #[must_use]
-    pub fn recorded(&self) -> usize {
-        self.recorded.len()
-    }
-
     /// The value of an operand.
     #[must_use]
     pub fn worth(&self, given: Given) -> f64 {

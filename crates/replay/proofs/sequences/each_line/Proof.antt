@@ -8,7 +8,8 @@ use Rattle.replay.proofs.sequences.each_line.Statement.{statement}
 use Rattle.replay.proofs.sequences.each_line.Tie as tie
 
 abbrev Inv-loop : tie.InvT-loop
-Inv-loop list lines value₀ adjoint₀ serial₀ count₀ child₀ partial₀ run₀ from₀ value adjoint serial count child partial run from = (from ≤ length lines + 1)
+Inv-loop list lines value₀ adjoint₀ serial₀ count₀ child₀ partial₀ run₀ from₀ value adjoint serial count child partial run from =
+    (from ≤ length lines + 1)
     × (length value ≡ length value₀)
     × (length adjoint ≡ length adjoint₀)
     × (length serial ≡ length serial₀)
@@ -17,7 +18,8 @@ Inv-loop list lines value₀ adjoint₀ serial₀ count₀ child₀ partial₀ r
     × (length partial ≡ length partial₀)
 
 abbrev μ-loop : tie.MeasureT-loop
-μ-loop list lines value₀ adjoint₀ serial₀ count₀ child₀ partial₀ run₀ from₀ value adjoint serial count child partial run from = (length lines + 1) - from
+μ-loop list lines value₀ adjoint₀ serial₀ count₀ child₀ partial₀ run₀ from₀ value adjoint serial count child partial run from =
+    (length lines + 1) - from
 
 -- Where the line has been carried out, and where its end was found.
 abbrev carried : tie.After-slice-known12 Inv-loop μ-loop → tie.After-one-line Inv-loop μ-loop
@@ -30,21 +32,9 @@ pub each-line-spec : {M : Type 1} → statement M
 each-line-spec =
     tie.close
     (tie.spec
-    Inv-loop
-    μ-loop
-    (λ c. search needs)
-    (λ c κs. search needs)
-    (λ c. search needs)
-    (λ c. search needs)
-    (λ c. search needs)
-    (λ c κs. search needs)
+    Inv-loop μ-loop
+    (λ c. search needs) (λ c κs. search needs) (λ c. search needs) (λ c. search needs) (λ c. search needs) (λ c κs. search needs)
     (λ c. omega (arith, found c))
     (λ c. omega (arith, found c))
     (λ c. omega (arith, found c, carried c))
-    (λ c. search needs)
-    (λ c. search needs)
-    (λ c. search needs)
-    (λ c. search needs)
-    (λ c. search needs)
-    (λ c. search needs)
-    (λ c. search needs))
+    (λ c. search needs) (λ c. search needs) (λ c. search needs) (λ c. search needs) (λ c. search needs) (λ c. search needs) (λ c. search needs))
