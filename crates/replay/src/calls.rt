@@ -6,6 +6,7 @@ use crate::kinds::STALE;
 use crate::words;
 use crate::words::DIGITS;
 use crate::words::byte_at;
+ghost use mathlib.Core.Path.{_≡_};
 ghost use Prim.Native.Nat.{_≤_};
 
 // The letters that words begin with: a node, a value that is detached, a number of edges. The word of a float or a digest begins with none.
@@ -48,16 +49,6 @@ pub struct Call {
     pub adjoints: Said,
 }
 
-const NO_CALL: Call = Call {
-    kind: KINDS,
-    stale: false,
-    left: NO_WORD,
-    right: NO_WORD,
-    answer: NO_WORD,
-    values: NO_WORD,
-    adjoints: NO_WORD,
-};
-
 // A word, and where the next one begins.
 struct Token {
     letter: u8,
@@ -74,6 +65,20 @@ impl Token {
     }
 }
 
+fn no_call() -> Call
+    ensures { λ r. ⌜ r .kind ≡ 47 ⌝ }
+{
+    Call {
+        kind: KINDS,
+        stale: false,
+        left: NO_WORD,
+        right: NO_WORD,
+        answer: NO_WORD,
+        values: NO_WORD,
+        adjoints: NO_WORD,
+    }
+}
+
 pub(crate) fn read(line: &[u8]) -> Call
     ensures { λ r. ⌜ (23 ≤ r .kind) × (r .kind ≤ 47) ⌝ }
 {
@@ -82,7 +87,7 @@ pub(crate) fn read(line: &[u8]) -> Call
     }
     let from = kinds::name_length(STALE) + 1;
     if from > line.len() {
-        return NO_CALL;
+        return no_call();
     }
     read_call(&line[from..], true)
 }
@@ -92,17 +97,17 @@ fn read_call(line: &[u8], stale: bool) -> Call
 {
     let kind = kinds::kind_of(line, OPERATIONS, STALE);
     if kind == KINDS {
-        return NO_CALL;
+        return no_call();
     }
     let name = kinds::name_length(kind);
     if name > line.len() {
-        return NO_CALL;
+        return no_call();
     }
     let call = with_words(line, name, kind, stale);
     if call.kind == kind {
         return call;
     }
-    NO_CALL
+    no_call()
 }
 
 // The call with the words that follow its name, which ends at `from`.
@@ -128,7 +133,7 @@ fn with_words(line: &[u8], from: usize, kind: usize, stale: bool) -> Call
     if (adjoints.end == line.len()) & is_readable(call) {
         return call;
     }
-    NO_CALL
+    no_call()
 }
 
 // An operand is a node or a float, a digest is a bare word.

@@ -132,7 +132,7 @@ fn answer(
             tape,
             dual::reading::adjoint(tape, value, &*adjoint, serial, count, child, partial, x),
         ),
-        _ => moved(tape, kind),
+        _ => after_move(moved(tape, kind)),
     }
 }
 
@@ -163,15 +163,15 @@ fn pass(
 }
 
 // At the end of a sequence nothing is called.
-fn moved(tape: Tape, kind: usize) -> Heard {
+fn moved(tape: Tape, kind: usize) -> Moved {
     match kind {
-        START_RECORDING => after_move(tape.start_recording()),
-        STOP_RECORDING => after_move(tape.stop_recording()),
-        SET_MARK => after_move(tape.set_mark()),
-        RESET_MARK => after_move(tape.reset_mark()),
-        REWIND_TO_MARK => after_move(tape.rewind_to_mark()),
-        REWIND_TO_INIT => after_move(tape.rewind_to_init()),
-        _ => answered(tape, NO_WORD),
+        START_RECORDING => tape.start_recording(),
+        STOP_RECORDING => tape.stop_recording(),
+        SET_MARK => tape.set_mark(),
+        RESET_MARK => tape.reset_mark(),
+        REWIND_TO_MARK => tape.rewind_to_mark(),
+        REWIND_TO_INIT => tape.rewind_to_init(),
+        _ => Moved::Done(tape),
     }
 }
 
