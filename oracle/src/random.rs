@@ -55,12 +55,13 @@ impl Random {
         f64::from_bits(bits(f64::from_bits(self.bits64())))
     }
 
-    fn special(&mut self) -> f64 {
+    /// One of the special values.
+    pub fn special(&mut self) -> f64 {
         SPECIAL[self.below(17) as usize]
     }
 
     /// A whole number from -32 to 32, zero with either sign.
-    fn whole(&mut self) -> f64 {
+    pub fn whole(&mut self) -> f64 {
         let size = self.below(33) as f64;
         if self.once_in(2) {
             -size

@@ -36,6 +36,24 @@ pub fn bits(x: f64) -> u64 {
     }
 }
 
+/// A word with the zeros at its end left out, but for the first digit.
+pub fn short(word: u64) -> String {
+    let digits = format!("{word:016x}");
+    let kept = digits.trim_end_matches('0').len().max(1);
+    digits[..kept].to_string()
+}
+
+/// One word for many: each is put in by an exclusive or, and then the bits are stirred as the
+/// generator xorshift64 does it.
+pub fn digest(words: impl Iterator<Item = u64>) -> u64 {
+    words.fold(0x9e37_79b9_7f4a_7c15, |before, word| {
+        let mut x = before ^ word;
+        x ^= x << 13;
+        x ^= x >> 7;
+        x ^ x << 17
+    })
+}
+
 /// A number that is read from, and taken apart into, its innermost floats: value part before
 /// derivative part, at every level.
 pub trait Number: Scalar {

@@ -14,14 +14,15 @@ const CAPACITY: usize = 4;
 
 const SLOTS: usize = 2 * CAPACITY;
 
-// What the arrays hold at first, no count or child that a node here can have and an unlikely partial, so that what the port leaves unwritten is seen.
-const NO_COUNT: u8 = 0xff;
+// What the arrays hold at first, no count or child that a node here can have and an unlikely float, so that what the port leaves unwritten is seen.
+pub const NO_COUNT: u8 = 0xff;
 
 pub const NO_CHILD: u16 = 0xffff;
 
-const NO_PARTIAL: f64 = 0.7;
+pub const UNLIKELY: f64 = 0.7;
 
-const NOTHING: Supplied = Supplied {
+// What is supplied for operations 0 to 7, which do not use it.
+pub const NOTHING: Supplied = Supplied {
     value: 0.0,
     left: 0.0,
     right: 0.0,
@@ -64,7 +65,7 @@ pub(crate) fn carry_out(op: u8, left: Given, right: Given) -> Outcome {
     let mut serial = [0u64; CAPACITY];
     let mut count = [NO_COUNT; CAPACITY];
     let mut child = [NO_CHILD; SLOTS];
-    let mut partial = [NO_PARTIAL; SLOTS];
+    let mut partial = [UNLIKELY; SLOTS];
     let recorded = record_on(
         &mut value,
         &mut adjoint,

@@ -1,5 +1,6 @@
 // A line of the operations table, recorded by the port and compared: the value, the edges and their partials.
 use crate::kinds;
+use crate::kinds::CALLS;
 use crate::kinds::KINDS;
 use crate::kinds::OPERATIONS;
 use crate::nodes;
@@ -33,7 +34,7 @@ struct Form {
 
 // Records the line's operation, tells a difference or that the line is no case, and counts it.
 pub(crate) fn replay(list: &[u8], line: &[u8], tally: Tally) -> Tally {
-    let kind = kinds::kind_of(line, OPERATIONS, KINDS);
+    let kind = kinds::kind_of(line, OPERATIONS, CALLS);
     if kind == KINDS {
         return report::malformed(list, tally);
     }
@@ -92,7 +93,7 @@ fn judge(
     edges: usize,
     case: &Case,
 ) -> Tally
-    requires { ⌜ (23 ≤ kind) × (kind < 31) × (operands ≤ 2) × (edges ≤ 2) ⌝ }
+    requires { ⌜ (23 ≤ kind) × (kind < 47) × (operands ≤ 2) × (edges ≤ 2) ⌝ }
 {
     let left = Given {
         on_tape: form.left == b'n',

@@ -5,6 +5,8 @@ ghost use Prim.Native.Nat.{_<_};
 pub struct Tally {
     pub lines: u64,
     pub malformed: u64,
+    pub runs: u64,
+    pub broken_runs: u64,
     pub cases: [u64; KINDS],
     pub differ: [u64; KINDS],
     pub apart: [u64; KINDS],
@@ -15,6 +17,8 @@ impl Tally {
         Tally {
             lines: 0,
             malformed: 0,
+            runs: 0,
+            broken_runs: 0,
             cases: [0; KINDS],
             differ: [0; KINDS],
             apart: [0; KINDS],
@@ -31,8 +35,17 @@ impl Tally {
         self
     }
 
+    // A whole sequence, and whether a line of it differs or is no call.
+    pub(crate) fn next_run(mut self, broken: bool) -> Tally {
+        self.runs = one_more(self.runs);
+        if broken {
+            self.broken_runs = one_more(self.broken_runs);
+        }
+        self
+    }
+
     pub(crate) fn agrees(mut self, kind: usize) -> Tally
-        requires { ⌜ kind < 31 ⌝ }
+        requires { ⌜ kind < 47 ⌝ }
     {
         let cases = self.cases[kind];
         self.cases[kind] = one_more(cases);
@@ -40,7 +53,7 @@ impl Tally {
     }
 
     pub(crate) fn differs(mut self, kind: usize) -> Tally
-        requires { ⌜ kind < 31 ⌝ }
+        requires { ⌜ kind < 47 ⌝ }
     {
         let cases = self.cases[kind];
         let differ = self.differ[kind];
@@ -51,7 +64,7 @@ impl Tally {
 
     // A case whose value is left out of the comparison is counted as such, besides what it comes to.
     pub(crate) fn set_apart(mut self, kind: usize, apart: bool) -> Tally
-        requires { ⌜ kind < 31 ⌝ }
+        requires { ⌜ kind < 47 ⌝ }
     {
         if !apart {
             return self;

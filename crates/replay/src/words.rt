@@ -28,25 +28,71 @@ pub struct Word {
     pub good: bool,
 }
 
+const NO_WORD: Word = Word {
+    bits: 0,
+    good: false,
+};
+
 // The byte at an index, and past the end one that stands in no case.
 pub(crate) fn byte_at(line: &[u8], at: usize) -> u8 {
     if at < line.len() { line[at] } else { 0 }
 }
 
-// The word whose first digit stands at `from`.
-pub(crate) fn read_word(line: &[u8], from: usize) -> Word
-    requires { do ⌜ from + 16 ≤ (← ⟦line.len()⟧) ⌝ }
+// The first index from `from` on at which the byte stands, or the line's length.
+pub(crate) fn find(line: &[u8], from: usize, byte: u8) -> usize
+    requires { do ⌜ from ≤ (← ⟦line.len()⟧) ⌝ }
+    ensures { λ r. do ⌜ (from ≤ r) × (r ≤ (← ⟦line.len()⟧ .entry)) ⌝ }
+{
+    for at in from..line.len() {
+        if line[at] == byte {
+            return at;
+        }
+    }
+    line.len()
+}
+
+// The word whose first digit stands at `from`. Digits that would stand at `end` or after it are zeros.
+pub(crate) fn read_word(line: &[u8], from: usize, end: usize) -> Word
+    requires { do ⌜ (from ≤ end) × (end ≤ (← ⟦line.len()⟧)) ⌝ }
 {
     let mut bits = 0;
     let mut good = true;
     for i in 0..DIGITS {
-        let digit = digit_of(line[from + i]);
+        let digit = digit_at(line, from + i, end);
         if digit == NOT_A_DIGIT {
             good = false;
         }
         bits = bits << 4 | wide(digit);
     }
     Word { bits, good }
+}
+
+// The number that is written from `from` to `end`, of five decimal digits at most.
+pub(crate) fn read_number(line: &[u8], from: usize, end: usize) -> Word
+    requires { do ⌜ (from ≤ end) × (end ≤ (← ⟦line.len()⟧)) ⌝ }
+    ensures { λ r. ⌜ r .bits ≤ 99999 ⌝ }
+{
+    let mut bits = 0;
+    for at in from..end {
+        let digit = digit_of(line[at]);
+        if digit > 9 {
+            return NO_WORD;
+        }
+        if bits > 9_999 {
+            return NO_WORD;
+        }
+        bits = 10 * bits + wide(digit);
+    }
+    Word {
+        bits,
+        good: from < end,
+    }
+}
+
+fn digit_at(line: &[u8], at: usize, end: usize) -> u8
+    requires { do ⌜ end ≤ (← ⟦line.len()⟧) ⌝ }
+{
+    if at < end { digit_of(line[at]) } else { 0 }
 }
 
 fn digit_of(byte: u8) -> u8 {
@@ -57,7 +103,9 @@ fn digit_of(byte: u8) -> u8 {
     }
 }
 
-fn wide(x: u8) -> u64 {
+fn wide(x: u8) -> u64
+    ensures { λ r. ⌜ r ≡ x ⌝ }
+{
     x as u64
 }
 
@@ -70,7 +118,7 @@ pub(crate) fn read_words(line: &[u8], from: usize, count: usize, case: &mut Case
         if line[at] != b' ' {
             return false;
         }
-        let word = read_word(line, at + 1);
+        let word = read_word(line, at + 1, at + PLACES);
         if !word.good {
             return false;
         }
@@ -113,4 +161,22 @@ pub(crate) fn is_same(case: &Case, from: usize, got: &Answer, count: usize) -> b
         }
     }
     true
+}
+
+// One word for the floats below `length`: each is put in by an exclusive or, and then the bits are stirred as the generator xorshift64 does it.
+pub(crate) fn digest(floats: &[f64], length: usize) -> u64 {
+    let mut sum = 0x9e37_79b9_7f4a_7c15;
+    for i in 0..floats.len() {
+        if i >= length {
+            break;
+        }
+        sum = stirred(sum ^ word_of(floats[i]));
+    }
+    sum
+}
+
+fn stirred(x: u64) -> u64 {
+    let a = x ^ (x << 13);
+    let b = a ^ (a >> 7);
+    b ^ (b << 17)
 }

@@ -2,110 +2,13 @@
 
 use std::hint::black_box;
 use std::io::{self, BufWriter, Write};
-use std::ops::{Add, Div, Mul, Neg, Sub};
 use std::process::exit;
 
-use oracle::ad::constant::Const;
 use oracle::ad::dual::Dual;
-use oracle::ad::expr::{max, min};
-use oracle::ad::scalar::Scalar;
 use oracle::ad::tape::{Tape, TAPE};
+use oracle::operations::{kinds, Form, Kind, Operand};
 use oracle::random::Random;
 use oracle::words::{bits, SPECIAL};
-
-/// An operand: a value with a node, or one without, which stands for a plain number.
-type Operand = Dual<f64>;
-
-/// One form of an operation: a letter for each operand, and what the Rust records.
-struct Form {
-    letters: &'static str,
-    record: fn(Operand, Operand) -> Dual<f64>,
-}
-
-/// An operation in each of its forms, and whether its operands make edges.
-struct Kind {
-    name: &'static str,
-    links: bool,
-    forms: Vec<Form>,
-}
-
-fn plain(x: Operand) -> Const<f64> {
-    Const(x.value())
-}
-
-/// A value that is on the tape, put there again.
-fn put_again(mut x: Operand) -> Dual<f64> {
-    x.put_on_tape();
-    x
-}
-
-/// An operation of two operands, each a `Dual` or a `Const`.
-macro_rules! two {
-    ($name:literal, $operation:path) => {
-        Kind {
-            name: $name,
-            links: true,
-            forms: vec![
-                Form {
-                    letters: "nn",
-                    record: |l, r| $operation(l, r).into(),
-                },
-                Form {
-                    letters: "np",
-                    record: |l, r| $operation(l, plain(r)).into(),
-                },
-                Form {
-                    letters: "pn",
-                    record: |l, r| $operation(plain(l), r).into(),
-                },
-                Form {
-                    letters: "pp",
-                    record: |l, r| $operation(plain(l), plain(r)).into(),
-                },
-            ],
-        }
-    };
-}
-
-/// Every operation, in the order of its number, by the Rust's own operators.
-fn kinds() -> Vec<Kind> {
-    vec![
-        Kind {
-            name: "leaf",
-            links: false,
-            forms: vec![
-                Form {
-                    letters: "n",
-                    record: |l, _| put_again(l),
-                },
-                Form {
-                    letters: "p",
-                    record: |l, _| Dual::new(l.value()),
-                },
-            ],
-        },
-        two!("add", Add::add),
-        two!("sub", Sub::sub),
-        two!("mul", Mul::mul),
-        two!("div", Div::div),
-        two!("max", max),
-        two!("min", min),
-        Kind {
-            name: "neg",
-            links: true,
-            forms: vec![
-                Form {
-                    letters: "n",
-                    record: |l, _| l.neg_val(),
-                },
-                Form {
-                    letters: "p",
-                    record: |l, _| Neg::neg(plain(l)).into(),
-                },
-            ],
-        },
-    ]
-}
 
 /// The operand of a letter; `n` puts it on the tape.
 fn operand(letter: u8, x: f64) -> Operand {

@@ -1,0 +1,249 @@
+// A sequence of calls, a line each, carried out by the port on one tape and compared line by line.
+use crate::calls;
+use crate::calls::Call;
+use crate::calls::NODE;
+use crate::calls::REFUSED;
+use crate::calls::Said;
+use crate::kinds::END;
+use crate::kinds::KINDS;
+use crate::kinds::STALE;
+use crate::nodes::NO_CHILD;
+use crate::nodes::NO_COUNT;
+use crate::nodes::UNLIKELY;
+use crate::report;
+use crate::session;
+use crate::session::Heard;
+use crate::session::NO_NODE;
+use crate::tally::Tally;
+use crate::words::find;
+use crate::words::float_of;
+use tape::Handle;
+use tape::Operand;
+use tape::Tape;
+ghost use Prim.Native.Nat.{_<_};
+
+// More nodes than a sequence has on the tape.
+const CAPACITY: usize = 400;
+
+const SLOTS: usize = 2 * CAPACITY;
+
+// More nodes than a sequence records.
+const NODES: usize = 512;
+
+// The number of the refusal that a stale handle gets.
+const NOT_LIVE: u64 = 3;
+
+// How far a sequence has come.
+struct Run {
+    tape: Tape,
+    // Where the port put the node with each serial, which a list counts from 1 as the port does.
+    places: [u16; NODES],
+    // Whether another call may come.
+    going: bool,
+    // Whether a line differs or is no call. What comes after it is left out, since the two tapes may be unlike from there on.
+    broken: bool,
+    tally: Tally,
+}
+
+pub(crate) fn replay(list: &[u8], lines: &[u8], tally: Tally) -> Tally {
+    let mut value = [UNLIKELY; CAPACITY];
+    let mut adjoint = [UNLIKELY; CAPACITY];
+    let mut serial = [1u64; CAPACITY];
+    let mut count = [NO_COUNT; CAPACITY];
+    let mut child = [NO_CHILD; SLOTS];
+    let mut partial = [UNLIKELY; SLOTS];
+    let run = each_line(
+        Run::new(tally),
+        list,
+        lines,
+        &mut value,
+        &mut adjoint,
+        &mut serial,
+        &mut count,
+        &mut child,
+        &mut partial,
+    );
+    run.finished(list)
+}
+
+fn each_line(
+    before: Run,
+    list: &[u8],
+    lines: &[u8],
+    value: &mut [f64],
+    adjoint: &mut [f64],
+    serial: &mut [u64],
+    count: &mut [u8],
+    child: &mut [u16],
+    partial: &mut [f64],
+) -> Run {
+    let mut run = before;
+    let mut from = 0;
+    while from < lines.len() {
+        let end = find(lines, from, b'\n');
+        run = one_line(
+            run,
+            list,
+            &lines[from..end],
+            value,
+            adjoint,
+            serial,
+            count,
+            child,
+            partial,
+        );
+        from = end + 1;
+    }
+    run
+}
+
+fn one_line(
+    before: Run,
+    list: &[u8],
+    line: &[u8],
+    value: &mut [f64],
+    adjoint: &mut [f64],
+    serial: &mut [u64],
+    count: &mut [u8],
+    child: &mut [u16],
+    partial: &mut [f64],
+) -> Run {
+    let run = before.next_line();
+    if !run.going {
+        return run.after_the_end(list);
+    }
+    let call = calls::read(line);
+    if call.kind == KINDS {
+        return run.malformed(list);
+    }
+    let heard = session::carry_out(
+        run.tape,
+        value,
+        adjoint,
+        serial,
+        count,
+        child,
+        partial,
+        call.kind,
+        run.operand(call.left),
+        run.operand(call.right),
+    );
+    run.judged(list, call, heard)
+}
+
+impl Run {
+    fn new(tally: Tally) -> Run {
+        Run {
+            tape: Tape::new(),
+            places: [0; NODES],
+            going: true,
+            broken: false,
+            tally,
+        }
+    }
+
+    fn next_line(mut self) -> Run {
+        self.tally = self.tally.next_line();
+        self
+    }
+
+    fn malformed(mut self, list: &[u8]) -> Run {
+        self.tally = report::malformed(list, self.tally);
+        self.broken()
+    }
+
+    fn broken(mut self) -> Run {
+        self.going = false;
+        self.broken = true;
+        self
+    }
+
+    // Nothing may follow the end of a sequence that agrees.
+    fn after_the_end(self, list: &[u8]) -> Run {
+        if self.broken {
+            self
+        } else {
+            self.malformed(list)
+        }
+    }
+
+    // The empty line after the sequence has been read. The sequence has to have an end before it.
+    fn finished(self, list: &[u8]) -> Tally {
+        let mut run = self.next_line();
+        if run.going {
+            run = run.malformed(list);
+        }
+        run.tally.next_run(run.broken)
+    }
+
+    fn operand(self, word: Said) -> Operand {
+        if word.letter == NODE {
+            return Operand::Node(self.handle(word.bits));
+        }
+        Operand::Number(float_of(word.bits))
+    }
+
+    fn handle(self, serial: u64) -> Handle {
+        if serial >= NODES as u64 {
+            return NO_NODE;
+        }
+        let at = serial as usize;
+        Handle {
+            index: self.places[at] as usize,
+            serial,
+        }
+    }
+
+    fn judged(self, list: &[u8], call: Call, heard: Heard) -> Run
+        requires { ⌜ call .kind < 47 ⌝ }
+    {
+        let mut run = self.after(heard);
+        let kind = counted_as(call);
+        if agrees(call, heard) {
+            run.tally = run.tally.agrees(kind);
+            run.going = (kind != END) & (kind != STALE);
+            return run;
+        }
+        report::heard(list, run.tally.lines, kind, heard);
+        run.tally = run.tally.differs(kind);
+        run.broken()
+    }
+
+    // The tape as the call left it, with the place of the node that it recorded.
+    fn after(mut self, heard: Heard) -> Run {
+        let tape = heard.tape;
+        self.tape = tape;
+        let node = heard.node;
+        if node.serial >= NODES as u64 {
+            return self;
+        }
+        if node.index > 65_535 {
+            return self;
+        }
+        let at = node.serial as usize;
+        let index = node.index;
+        self.places[at] = index as u16;
+        self
+    }
+}
+
+fn counted_as(call: Call) -> usize
+    requires { ⌜ call .kind < 47 ⌝ }
+    ensures { λ r. ⌜ r < 47 ⌝ }
+{
+    if call.stale { STALE } else { call.kind }
+}
+
+// Whether the port answered as the Rust did, or refused a stale handle as such.
+fn agrees(call: Call, heard: Heard) -> bool {
+    if call.stale {
+        return is_said(heard.answer, REFUSED, NOT_LIVE);
+    }
+    is_said(heard.answer, call.answer.letter, call.answer.bits)
+        & (heard.values == call.values.bits)
+        & (heard.adjoints == call.adjoints.bits)
+}
+
+fn is_said(word: Said, letter: u8, bits: u64) -> bool {
+    (word.letter == letter) & (word.bits == bits)
+}

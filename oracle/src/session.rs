@@ -1,0 +1,250 @@
+//! One sequence of calls on the Rust's f64 tape, each written down as a line of docs/REPLAY.md with
+//! what the Rust answered.
+
+use std::fmt::{Display, Write};
+
+use crate::ad::dual::Dual;
+use crate::ad::tape::{Tape, TAPE};
+use crate::operations::Kind;
+use crate::words::{bits, digest, short};
+
+/// What a call is given: the n-th node recorded in the sequence, counted from 1, or a plain number.
+#[derive(Clone, Copy)]
+pub enum Given {
+    Node(usize),
+    Plain(f64),
+}
+
+/// The reverse passes, the first three from a root.
+#[derive(Clone, Copy)]
+pub enum Pass {
+    Backward(usize),
+    BackwardToMark(usize),
+    BackwardMarkToStart(usize),
+    PropagateToMark,
+    PropagateMarkToStart,
+}
+
+/// The calls that start, stop, mark and rewind, by their names.
+pub type Move = (&'static str, fn());
+
+pub const START: Move = ("start_recording", Tape::start_recording);
+pub const STOP: Move = ("stop_recording", Tape::stop_recording);
+pub const SET_MARK: Move = ("set_mark", Tape::set_mark);
+pub const RESET_MARK: Move = ("reset_mark", Tape::reset_mark);
+pub const REWIND_TO_MARK: Move = ("rewind_to_mark", Tape::rewind_to_mark);
+pub const REWIND_TO_INIT: Move = ("rewind_to_init", Tape::rewind_to_init);
+
+/// What has been called, and what came of it.
+pub struct Session {
+    text: String,
+    /// Every value recorded so far, whether it is still on the tape or not.
+    recorded: Vec<Dual<f64>>,
+    /// Which of them are on the tape, by their index there.
+    live: Vec<usize>,
+    /// Whether max or min met an input where the Rust departs from the rule, or may.
+    pub departed: bool,
+}
+
+impl Session {
+    /// A sequence begins on a new tape.
+    #[must_use]
+    pub fn new() -> Self {
+        Dual::set_tape(Tape::<f64>::new());
+        Self {
+            text: String::new(),
+            recorded: Vec::new(),
+            live: Vec::new(),
+            departed: false,
+        }
+    }
+
+    /// The nodes on the tape, in the order of their indexes.
+    #[must_use]
+    pub fn live(&self) -> &[usize] {
+        &self.live
+    }
+
+    /// The value of an operand.
+    #[must_use]
+    pub fn worth(&self, given: Given) -> f64 {
+        self.dual(given).value()
+    }
+
+    /// The adjoint of a node.
+    #[must_use]
+    pub fn gradient(&self, node: usize) -> f64 {
+        let adjoint = self.dual(Given::Node(node)).adjoint();
+        adjoint.expect("the value has a node")
+    }
+
+    /// The lines, with the last one, `end`, and the empty one that ends a sequence.
+    #[must_use]
+    pub fn ended(mut self) -> String {
+        self.text.push_str("end");
+        self.say_digests();
+        self.text + "\n"
+    }
+
+    /// The lines, of which the last is a call that the Rust takes though a handle in it is stale.
+    #[must_use]
+    pub fn ended_stale(self) -> String {
+        let at = self.text.trim_end().rfind('\n').map_or(0, |feed| feed + 1);
+        format!("{}stale {}\n", &self.text[..at], &self.text[at..])
+    }
+
+    pub fn call(&mut self, (name, carry_out): Move) {
+        self.text.push_str(name);
+        self.text.push('\n');
+        carry_out();
+        let length = TAPE.with(|tape| tape.borrow().book.len());
+        self.live.truncate(length);
+    }
+
+    /// Records an operation in the form of these letters, and answers its value if it is detached.
+    pub fn record(&mut self, kind: &Kind, letters: &str, given: &[Given]) -> Option<f64> {
+        let form = kind.forms.iter().find(|form| form.letters == letters);
+        let form = form.expect("the operation has the form");
+        let (left, right) = (given[0], given[given.len() - 1]);
+        let made = (form.record)(self.dual(left), self.dual(right));
+        let chooses = matches!(kind.name, "max" | "min");
+        self.departed |= chooses && departs(self.worth(left), self.worth(right));
+        self.text.push_str(kind.name);
+        for &operand in given {
+            self.say_given(operand);
+        }
+        let mark = if made.is_on_tape() { "" } else { "p" };
+        self.say(format_args!("{mark}{}", short(bits(made.value()))));
+        self.text.push('\n');
+        if made.is_on_tape() {
+            self.recorded.push(made);
+            self.live.push(self.recorded.len());
+            return None;
+        }
+        Some(made.value())
+    }
+
+    pub fn pass(&mut self, pass: Pass) {
+        let (name, root) = match pass {
+            Pass::Backward(root) => ("backward", Some(root)),
+            Pass::BackwardToMark(root) => ("backward_to_mark", Some(root)),
+            Pass::BackwardMarkToStart(root) => ("backward_mark_to_start", Some(root)),
+            Pass::PropagateToMark => ("propagate_to_mark", None),
+            Pass::PropagateMarkToStart => ("propagate_mark_to_start", None),
+        };
+        self.carry_out(pass);
+        self.text.push_str(name);
+        if let Some(root) = root {
+            self.say_given(Given::Node(root));
+        }
+        self.say(format_args!("v{}", self.visited(pass)));
+        self.say_digests();
+    }
+
+    pub fn reset_adjoints(&mut self) {
+        Tape::reset_adjoints();
+        self.text.push_str("reset_adjoints");
+        self.say_digests();
+    }
+
+    pub fn value(&mut self, given: Given) {
+        self.text.push_str("value");
+        self.say_given(given);
+        self.say(short(bits(self.worth(given))));
+        self.text.push('\n');
+    }
+
+    pub fn adjoint(&mut self, node: usize) {
+        self.text.push_str("adjoint");
+        self.say_given(Given::Node(node));
+        self.say(short(bits(self.gradient(node))));
+        self.text.push('\n');
+    }
+
+    fn dual(&self, given: Given) -> Dual<f64> {
+        match given {
+            Given::Node(node) => self.recorded[node - 1],
+            Given::Plain(x) => Dual::constant(x),
+        }
+    }
+
+    fn carry_out(&self, pass: Pass) {
+        let root = |node: usize| self.recorded[node - 1];
+        let done = match pass {
+            Pass::Backward(node) => root(node).backward(),
+            Pass::BackwardToMark(node) => root(node).backward_to_mark(),
+            Pass::BackwardMarkToStart(node) => root(node).backward_mark_to_start(),
+            Pass::PropagateToMark => {
+                TAPE.with(|tape| tape.borrow_mut().propagate_to_mark());
+                Ok(())
+            }
+            Pass::PropagateMarkToStart => {
+                TAPE.with(|tape| tape.borrow_mut().propagate_mark_to_start());
+                Ok(())
+            }
+        };
+        done.expect("the root is on the tape");
+    }
+
+    /// The edges that a pass visits. The Rust does not count them: they are the children of the
+    /// nodes in its range.
+    fn visited(&self, pass: Pass) -> usize {
+        TAPE.with(|tape| {
+            let tape = tape.borrow();
+            let range = match pass {
+                Pass::Backward(root) => 0..self.index(root) + 1,
+                Pass::BackwardToMark(_) | Pass::PropagateToMark => tape.mark..tape.book.len(),
+                Pass::BackwardMarkToStart(_) | Pass::PropagateMarkToStart => 0..tape.mark,
+            };
+            let nodes = tape.book[range].iter();
+            let children = nodes.map(|node| unsafe { node.as_ref() }.num_children());
+            children.sum()
+        })
+    }
+
+    /// Where the Rust has the node of a recorded value.
+    fn index(&self, node: usize) -> usize {
+        let pointer = self.recorded[node - 1].node_ptr();
+        let pointer = pointer.expect("the value has a node");
+        TAPE.with(|tape| tape.borrow().node(pointer).expect("it is on the tape").idx)
+    }
+
+    fn say(&mut self, word: impl Display) {
+        write!(self.text, " {word}").expect("a string can be written");
+    }
+
+    fn say_given(&mut self, given: Given) {
+        match given {
+            Given::Node(node) => self.say(format_args!("n{node}")),
+            Given::Plain(x) => self.say(short(bits(x))),
+        }
+    }
+
+    /// The digests of all values and of all adjoints on the tape, and the line's end. The Rust keeps
+    /// a value beside its node, so that the values are those of the recorded numbers.
+    fn say_digests(&mut self) {
+        let on_tape: Vec<Dual<f64>> = self.live.iter().map(|&n| self.recorded[n - 1]).collect();
+        let values = digest(on_tape.iter().map(|x| bits(x.value())));
+        let adjoints = TAPE.with(|tape| {
+            let tape = tape.borrow();
+            let pointers = on_tape.iter().map(|x| x.node_ptr());
+            assert!(pointers.eq(tape.book.iter().map(|&p| Some(p))));
+            digest(tape.book.iter().map(|p| bits(unsafe { p.as_ref() }.adj)))
+        });
+        self.say(short(values));
+        self.say(short(adjoints));
+        self.text.push('\n');
+    }
+}
+
+impl Default for Session {
+    fn default() -> Self {
+        Self::new()
+    }
+}
+
+/// The inputs of max and min that docs/DIFFERENCES.md names.
+fn departs(l: f64, r: f64) -> bool {
+    let zeros = l == 0.0 && r == 0.0 && l.is_sign_negative() != r.is_sign_negative();
+    (r.is_nan() && !l.is_nan()) || zeros
+}
