@@ -10,7 +10,7 @@ use lib.Ieee.{Float}
 use lib.ListN.{getD}
 use Rattle.tape.specs.Numbers.{floats}
 use Rattle.tape.specs.Machine.{Arrays, Machine, slot, fits, all}
-use Rattle.tape.specs.Handles.{Operand, plain, node, operand, lives, live, handles, any-plain}
+use Rattle.tape.specs.Handles.{plain, node, live, handles, any-plain}
 use Rattle.tape.specs.Walk.{sound}
 use Rattle.tape.specs.Answers.{refused}
 use Rattle.tape.specs.Calls.{Pass as Pass′, backward, backward-to-mark, backward-mark-to-start, propagate-to-mark, propagate-mark-to-start, pass, plan, range, any-stale, carried, step}
@@ -49,34 +49,24 @@ by-root at-node at-none (root.Refused r) = Refused r
 by-root at-node at-none root.None = at-none
 by-root at-node at-none (root.At h) = at-node h
 
-abbrev index-of : Root → ℕ
-index-of (root.Refused r) = 0
-index-of root.None = 0
-index-of (root.At k) = k .index
+pub none-sound : {r : Root} → r ≡ root.None → (k : Refusal) → r ≡ root.Refused k → ⊥
+none-sound e k f = let z : _≡_ {A = ℕ} 0 1 = cc in omega arith
 
-node-below : (b : Bool) (h k : Handle) (n : ℕ) → (b ≡ true → k .index < n) → cond b (root.At k) (root.Refused NotLive) ≡ root.At h → h .index < n
-node-below true h k n below e = subst (λ r. index-of r < n) e (below refl)
-node-below false h k n below e = let z : _≡_ {A = ℕ} 0 1 = cc in absurd (omega arith)
+pub node-sound : {r : Root} (h : Handle) → r ≡ root.At h → (k : Refusal) → r ≡ root.Refused k → ⊥
+node-sound h e k f = let z : _≡_ {A = ℕ} 0 1 = cc in omega arith
 
--- a root that was found is below the length
-pub root-below : (n : ℕ) (serials : List ℕ) (os : List (Operand floats)) (h : Handle) → found-root n serials os ≡ root.At h → h .index < n
-root-below n serials [] h e = let z : _≡_ {A = ℕ} 0 1 = cc in absurd (omega arith)
-root-below n serials (plain x ∷ os) h e = let z : _≡_ {A = ℕ} 0 1 = cc in absurd (omega arith)
-root-below n serials (node k ∷ os) h e = node-below (lives n serials k) h k n (λ t. lives-told n serials k t .below) e
-
-not-none : (b : Bool) (k : Handle) → cond b (root.At k) (root.Refused NotLive) ≡ root.None → ⊥
-not-none true k e = let z : _≡_ {A = ℕ} 0 1 = cc in omega arith
-not-none false k e = let z : _≡_ {A = ℕ} 0 1 = cc in omega arith
-
-some-root : (n : ℕ) (serials : List ℕ) (o : Operand floats) → found-root n serials (o ∷ []) ≡ root.None → ⊥
-some-root n serials (plain x) e = let z : _≡_ {A = ℕ} 0 1 = cc in omega arith
-some-root n serials (node h) e = not-none (lives n serials h) h e
+by-life : {P : Type 0} (b : Bool) → (b ≡ true → P) → (b ≡ false → P) → P
+by-life true f g = f refl
+by-life false f g = g refl
 
 -- ---- the plan
 
 module _ (M : Machine floats) (shape : fits true M ≡ true) where
-  abbrev pub span : Pass → code.Operand → Span
-  span which x = span-of (plan (pass-of which x) (M .state))
+  abbrev pub span : Pass → Span
+  span which = span-of (plan (pass-of which) (M .state))
+
+  abbrev pub roots : Pass → Root
+  roots which = found-root (M .state .length) (M .lent .serial) (plan (pass-of which) (M .state) .root)
 
   -- a range that ends at or below the length can be tested
   pub within : (s : Span) → s .end ≤ M .state .length → Within s (M .lent .count) (M .lent .child)
@@ -89,19 +79,14 @@ module _ (M : Machine floats) (shape : fits true M ≡ true) where
   marked : M .state .mark ≤ M .state .length
   marked = fit M shape .state .mark
 
-  pub rooted-end : (which : Pass) (h : Handle) → h .index < M .state .length → span which (Node h) .end ≤ M .state .length
-  rooted-end Backward h l = omega arith
-  rooted-end BackwardToMark h l = le-refl _
-  rooted-end BackwardMarkToStart h l = marked
-  rooted-end PropagateToMark h l = le-refl _
-  rooted-end PropagateMarkToStart h l = marked
-
-  pub unrooted-end : (which : Pass) (x y : code.Operand) → found-root (M .state .length) (M .lent .serial) (plan (pass-of which x) (M .state) .root) ≡ root.None → span which y .end ≤ M .state .length
-  unrooted-end Backward x y e = absurd (some-root _ (M .lent .serial) (operand x) e)
-  unrooted-end BackwardToMark x y e = absurd (some-root _ (M .lent .serial) (operand x) e)
-  unrooted-end BackwardMarkToStart x y e = absurd (some-root _ (M .lent .serial) (operand x) e)
-  unrooted-end PropagateToMark x y e = le-refl _
-  unrooted-end PropagateMarkToStart x y e = marked
+  -- a range ends at or below the length, unless its root is amiss
+  range-end : (which : Pass) → ((r : Refusal) → roots which ≡ root.Refused r → ⊥) → span which .end ≤ M .state .length
+  range-end (Backward (Number v)) sound = absurd (sound Detached refl)
+  range-end (Backward (Node h)) sound = by-life (live M h) (λ t. let l = lives-told _ (M .lent .serial) h t .below in omega arith) (λ f. absurd (sound NotLive (rw f)))
+  range-end (BackwardToMark x) sound = le-refl _
+  range-end (BackwardMarkToStart x) sound = marked
+  range-end PropagateToMark sound = le-refl _
+  range-end PropagateMarkToStart sound = marked
 
   -- carried out, the plan is the pass; and it can be carried out
   abbrev pub Settles : Pass′ floats → Planned → Type 0
@@ -148,50 +133,41 @@ module _ (M : Machine floats) (shape : fits true M ≡ true) where
     by-node : (at-node : Handle → Planned) (at-none : Planned) (h : Handle) → plan p (M .state) .root ≡ node h ∷ [] → (live M h ≡ true → Settles p (at-node h)) → Settles p (by-root at-node at-none (cond (live M h) (root.At h) (root.Refused NotLive)))
     by-node at-node at-none h e if-live = by-test (λ r. Settles p (by-root at-node at-none r)) (live M h) if-live (refuses-stale h e)
 
-  -- what the code comes to, y standing for the root where there is none
-  abbrev pub planned : Pass → code.Operand → Root → Planned
-  planned which y r = by-root (λ h. let s = span which (Node h) in tested s (Rooted h s)) (tested (span which y) (Unrooted (span which y))) r
+  -- what the code comes to
+  abbrev pub planned : Pass → Root → Planned
+  planned which r = by-root (λ h. tested (span which) (Rooted h (span which))) (tested (span which) (Unrooted (span which))) r
 
-  pub planned-so : (which : Pass) (x y : code.Operand) → Settles (pass-of which x) (planned which y (found-root (M .state .length) (M .lent .serial) (plan (pass-of which x) (M .state) .root)))
-  planned-so Backward (Number v) y = refuses-plain (backward (plain v)) v refl
-  planned-so BackwardToMark (Number v) y = refuses-plain (backward-to-mark (plain v)) v refl
-  planned-so BackwardMarkToStart (Number v) y = refuses-plain (backward-mark-to-start (plain v)) v refl
-  planned-so Backward (Node h) y = by-node (backward (node h)) _ _ h refl (node-tested (backward (node h)) h refl refl (rooted-end Backward h))
-  planned-so BackwardToMark (Node h) y = by-node (backward-to-mark (node h)) _ _ h refl (node-tested (backward-to-mark (node h)) h refl refl (rooted-end BackwardToMark h))
-  planned-so BackwardMarkToStart (Node h) y = by-node (backward-mark-to-start (node h)) _ _ h refl (node-tested (backward-mark-to-start (node h)) h refl refl (rooted-end BackwardMarkToStart h))
-  planned-so PropagateToMark x y = settles-tested propagate-to-mark (Unrooted _) refl refl refl (walkable _ (le-refl _))
-  planned-so PropagateMarkToStart x y = settles-tested propagate-mark-to-start (Unrooted _) refl refl refl (walkable _ marked)
+  pub planned-so : (which : Pass) → Settles (pass-of which) (planned which (roots which))
+  planned-so (Backward (Number v)) = refuses-plain (backward (plain v)) v refl
+  planned-so (BackwardToMark (Number v)) = refuses-plain (backward-to-mark (plain v)) v refl
+  planned-so (BackwardMarkToStart (Number v)) = refuses-plain (backward-mark-to-start (plain v)) v refl
+  planned-so (Backward (Node h)) = by-node (backward (node h)) _ _ h refl (node-tested (backward (node h)) h refl refl (λ l. omega arith))
+  planned-so (BackwardToMark (Node h)) = by-node (backward-to-mark (node h)) _ _ h refl (node-tested (backward-to-mark (node h)) h refl refl (λ _. le-refl _))
+  planned-so (BackwardMarkToStart (Node h)) = by-node (backward-mark-to-start (node h)) _ _ h refl (node-tested (backward-mark-to-start (node h)) h refl refl (λ _. marked))
+  planned-so PropagateToMark = settles-tested propagate-to-mark (Unrooted _) refl refl refl (walkable _ (le-refl _))
+  planned-so PropagateMarkToStart = settles-tested propagate-mark-to-start (Unrooted _) refl refl refl (walkable _ marked)
 
 -- ---- place by place, as the code goes: r is the root that it found, s the range
 
-module _ (M : Machine floats) (shape : fits true M ≡ true) (which : Pass) (x y : code.Operand) (r : Root) (found : r ≡ found-root (M .state .length) (M .lent .serial) (plan (pass-of which x) (M .state) .root)) where
-  settled : Settles M shape (pass-of which x) (planned M shape which y r)
-  settled = subst (λ r. Settles M shape (pass-of which x) (planned M shape which y r)) (sym found) (planned-so M shape which x y)
+module _ (M : Machine floats) (shape : fits true M ≡ true) (which : Pass) (r : Root) (found : r ≡ roots M shape which) where
+  settled : Settles M shape (pass-of which) (planned M shape which r)
+  settled = subst (λ r. Settles M shape (pass-of which) (planned M shape which r)) (sym found) (planned-so M shape which)
 
-  pub refuses : (k : Refusal) → r ≡ root.Refused k → Settles M shape (pass-of which x) (Refused k)
-  refuses k e = subst (λ r. Settles M shape (pass-of which x) (planned M shape which y r)) e settled
+  pub refuses : (k : Refusal) → r ≡ root.Refused k → Settles M shape (pass-of which) (Refused k)
+  refuses k e = subst (λ r. Settles M shape (pass-of which) (planned M shape which r)) e settled
 
-  module _ (none : r ≡ root.None) (s : Span) (same : s ≡ span M shape which y) where
-    pub unrooted-within : Within s (M .lent .count) (M .lent .child)
-    unrooted-within = subst (λ s. Within s (M .lent .count) (M .lent .child)) (sym same) (within M shape _ (unrooted-end M shape which x y (sym found ∙ none)))
+  -- the root is not refused
+  module _ (sound : (k : Refusal) → r ≡ root.Refused k → ⊥) where
+    ends : span M shape which .end ≤ M .state .length
+    ends = range-end M shape which (λ k e. sound k (found ∙ e))
 
-    pub unrooted : (z : Planned) → z ≡ tested M shape s (Unrooted s) → Settles M shape (pass-of which x) z
-    unrooted z e =
-        let here = subst (λ r. Settles M shape (pass-of which x) (planned M shape which y r)) none settled in
-        subst (Settles M shape (pass-of which x)) (ap (λ s. tested M shape s (Unrooted s)) (sym same) ∙ sym e) here
+    pub end-small : span M shape which .end ≤ 65535
+    end-small = let f : Fit M = fit M shape in omega (arith, ends)
 
-  module _ (h : Handle) (there : r ≡ root.At h) where
-    pub rooted-below : h .index < M .state .length
-    rooted-below = root-below _ (M .lent .serial) (plan (pass-of which x) (M .state) .root) h (sym found ∙ there)
+    pub range-within : (s : Span) → s ≡ span M shape which → Within s (M .lent .count) (M .lent .child)
+    range-within s same = subst (λ s. Within s (M .lent .count) (M .lent .child)) (sym same) (within M shape _ ends)
 
-    pub rooted-small : h .index ≤ 65535
-    rooted-small = let f : Fit M = fit M shape in omega (arith, rooted-below)
-
-    module _ (s : Span) (same : s ≡ span M shape which (Node h)) where
-      pub rooted-within : Within s (M .lent .count) (M .lent .child)
-      rooted-within = subst (λ s. Within s (M .lent .count) (M .lent .child)) (sym same) (within M shape _ (rooted-end M shape which h rooted-below))
-
-      pub rooted : (z : Planned) → z ≡ tested M shape s (Rooted h s) → Settles M shape (pass-of which x) z
-      rooted z e =
-          let here = subst (λ r. Settles M shape (pass-of which x) (planned M shape which y r)) there settled in
-          subst (Settles M shape (pass-of which x)) (ap (λ s. tested M shape s (Rooted h s)) (sym same) ∙ sym e) here
+  pub settled-by : (q : Root) → r ≡ q → (s : Span) → s ≡ span M shape which → (z : Planned) → z ≡ by-root (λ h. tested M shape s (Rooted h s)) (tested M shape s (Unrooted s)) q → Settles M shape (pass-of which) z
+  settled-by q e s same z made =
+      let here = subst (λ r. Settles M shape (pass-of which) (planned M shape which r)) e settled in
+      subst (Settles M shape (pass-of which)) (ap (λ s. by-root (λ h. tested M shape s (Rooted h s)) (tested M shape s (Unrooted s)) q) (sym same) ∙ sym made) here

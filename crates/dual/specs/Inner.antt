@@ -6,7 +6,7 @@ use mathlib.Core.List.{List, [], _∷_, map}
 use lib.Ieee.{Float, nan}
 use lib.ListN.{length, getD}
 use Rattle.tape.specs.Numbers.{floats}
-use Rattle.tape.specs.Machine.{Arrays, Machine, arrays, slot, all}
+use Rattle.tape.specs.Machine.{Arrays, Machine, arrays, most-nodes, most-edges, slot, all}
 use Rattle.tape.specs.Handles.{Operand, plain, node, operand, lives}
 use Rattle.tape.specs.Walk.{walk, edges-at, indexes, visited, sound}
 use Rattle.tape.specs.Answers.{Answer, refused, counted}
@@ -15,7 +15,6 @@ use Rattle.tape.specs.declared.errors.Refusal.the-variants.{NotLive, Detached}
 use Rattle.tape.specs.declared.node.Handle.{Handle}
 use Rattle.tape.specs.declared.node.Lookup.{Lookup}
 use Rattle.tape.specs.declared.node.Lookup.the-variants as lookup
-use Rattle.tape.specs.declared.node.Operand as code
 use Rattle.dual.specs.declared.reading.Read as read
 use Rattle.dual.specs.declared.reading.Liveness as liveness
 use Rattle.dual.specs.declared.planning.Pass as passes
@@ -34,13 +33,13 @@ told-of lookup.NotLive = liveness.the-variants.NotLive
 
 -- ---- plans
 
--- the pass that the code's name and root stand for
-abbrev pub pass-of : passes.Pass → code.Operand → Pass floats
-pass-of passes.the-variants.Backward x = backward (operand x)
-pass-of passes.the-variants.BackwardToMark x = backward-to-mark (operand x)
-pass-of passes.the-variants.BackwardMarkToStart x = backward-mark-to-start (operand x)
-pass-of passes.the-variants.PropagateToMark x = propagate-to-mark
-pass-of passes.the-variants.PropagateMarkToStart x = propagate-mark-to-start
+-- the code's pass
+abbrev pub pass-of : passes.Pass → Pass floats
+pass-of (passes.the-variants.Backward x) = backward (operand x)
+pass-of (passes.the-variants.BackwardToMark x) = backward-to-mark (operand x)
+pass-of (passes.the-variants.BackwardMarkToStart x) = backward-mark-to-start (operand x)
+pass-of passes.the-variants.PropagateToMark = propagate-to-mark
+pass-of passes.the-variants.PropagateMarkToStart = propagate-mark-to-start
 
 abbrev pub found-root : ℕ → List ℕ → List (Operand floats) → root.Root
 found-root n serials [] = root.the-variants.None
@@ -73,20 +72,20 @@ carried-out (planned.the-variants.Unrooted s) M = let P : Plan floats = record {
 
 -- node i's entries are there, and its edge slots
 pub record EdgeRoom (i : ℕ) (counts children : List ℕ) : Type 0 where
-  pub small : i < 65535
+  pub small : i < most-nodes
   pub count : i < length counts
-  pub child : slot i + 2 ≤ length children
+  pub child : slot i + most-edges ≤ length children
 
 -- node i can be walked
 pub record NodeRoom (i : ℕ) (adjoints : List Float) (counts children : List ℕ) (partials : List Float) : Type 0 where
   pub adjoint : i < length adjoints
   pub edges : EdgeRoom i counts children
-  pub partial : slot i + 2 ≤ length partials
+  pub partial : slot i + most-edges ≤ length partials
   pub sound : sound-edges counts children i ≡ true
 
 -- a span whose nodes can be tested: its end is within the arrays, which hold no more nodes than a tape does
 pub record Within (s : Span) (counts children : List ℕ) : Type 0 where
-  pub small : s .end ≤ 65535
+  pub small : s .end ≤ most-nodes
   pub count : s .end ≤ length counts
   pub child : slot (s .end) ≤ length children
 

@@ -3,9 +3,9 @@
 // None of these calls changes the tape's state, so none hands it back.
 pub mod clearing;
 pub mod passes;
-pub mod planning;
+mod planning;
 pub mod reading;
-pub mod walking;
+mod walking;
 
 pub use clearing::Cleared;
 pub use passes::Passed;

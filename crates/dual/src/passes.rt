@@ -37,7 +37,7 @@ pub fn backward(
         ≡ step (pass (backward (operand root))) (machine tape (arrays (now (value .entry)) (now (adjoint .entry)) (now (serial .entry)) (now (count .entry)) (now (child .entry)) (now (partial .entry)))) ⌝ }
 {
     run(
-        Pass::Backward,
+        Pass::Backward(root),
         tape,
         value,
         adjoint,
@@ -45,7 +45,6 @@ pub fn backward(
         count,
         child,
         partial,
-        root,
     )
 }
 
@@ -65,7 +64,7 @@ pub fn backward_to_mark(
         ≡ step (pass (backward-to-mark (operand root))) (machine tape (arrays (now (value .entry)) (now (adjoint .entry)) (now (serial .entry)) (now (count .entry)) (now (child .entry)) (now (partial .entry)))) ⌝ }
 {
     run(
-        Pass::BackwardToMark,
+        Pass::BackwardToMark(root),
         tape,
         value,
         adjoint,
@@ -73,7 +72,6 @@ pub fn backward_to_mark(
         count,
         child,
         partial,
-        root,
     )
 }
 
@@ -93,7 +91,7 @@ pub fn backward_mark_to_start(
         ≡ step (pass (backward-mark-to-start (operand root))) (machine tape (arrays (now (value .entry)) (now (adjoint .entry)) (now (serial .entry)) (now (count .entry)) (now (child .entry)) (now (partial .entry)))) ⌝ }
 {
     run(
-        Pass::BackwardMarkToStart,
+        Pass::BackwardMarkToStart(root),
         tape,
         value,
         adjoint,
@@ -101,7 +99,6 @@ pub fn backward_mark_to_start(
         count,
         child,
         partial,
-        root,
     )
 }
 
@@ -128,7 +125,6 @@ pub fn propagate_to_mark(
         count,
         child,
         partial,
-        Operand::Number(0.0),
     )
 }
 
@@ -155,7 +151,6 @@ pub fn propagate_mark_to_start(
         count,
         child,
         partial,
-        Operand::Number(0.0),
     )
 }
 
@@ -168,23 +163,12 @@ fn run(
     count: &[u8],
     child: &[u16],
     partial: &[f64],
-    root: Operand,
 ) -> Passed
     ensures { λ x. ⌜
         passed-back x (machine tape (arrays {N = floats} (now (value .entry)) (now (adjoint .exit)) (now (serial .entry)) (now (count .entry)) (now (child .entry)) (now (partial .entry))))
-        ≡ step (pass (pass-of which root)) (machine tape (arrays (now (value .entry)) (now (adjoint .entry)) (now (serial .entry)) (now (count .entry)) (now (child .entry)) (now (partial .entry)))) ⌝ }
+        ≡ step (pass (pass-of which)) (machine tape (arrays (now (value .entry)) (now (adjoint .entry)) (now (serial .entry)) (now (count .entry)) (now (child .entry)) (now (partial .entry)))) ⌝ }
 {
-    let planned = crate::planning::plan(
-        which,
-        tape,
-        value,
-        adjoint,
-        serial,
-        count,
-        child,
-        partial,
-        root,
-    );
+    let planned = crate::planning::plan(which, tape, value, adjoint, serial, count, child, partial);
     carry_out(planned, adjoint, count, child, partial)
 }
 

@@ -10,16 +10,16 @@ ghost use mathlib.Core.Path.{_≡_};
 ghost use mathlib.Core.Bool.{cond};
 ghost use mathlib.Core.List.{[], _∷_};
 ghost use Rattle.tape.specs.Numbers.{floats};
-ghost use Rattle.tape.specs.Machine.{arrays, machine};
+ghost use Rattle.tape.specs.Machine.{arrays, machine, most-nodes};
 ghost use Rattle.tape.specs.Handles.{node, operand};
-ghost use Rattle.tape.specs.Calls.{step, pass, plan as Calls·plan};
+ghost use Rattle.tape.specs.Calls.{step, pass, plan as Calls·plan, past};
 ghost use Rattle.dual.specs.Inner.{EdgeRoom, Within, Ready, pass-of, found-root, span-of, carried-out, all-sound, sound-edges};
 
-// The five passes, under the names of their calls.
+// The five passes, under the names of their calls, with the root of those that have one.
 pub(crate) enum Pass {
-    Backward,
-    BackwardToMark,
-    BackwardMarkToStart,
+    Backward(Operand),
+    BackwardToMark(Operand),
+    BackwardMarkToStart(Operand),
     PropagateToMark,
     PropagateMarkToStart,
 }
@@ -44,12 +44,6 @@ pub(crate) enum Root {
     At(Handle),
 }
 
-// Stands where a pass has no root.
-const NO_ROOT: Handle = Handle {
-    index: 0,
-    serial: 0,
-};
-
 // Tests everything that the pass can be refused for.
 pub(crate) fn plan(
     which: Pass,
@@ -60,31 +54,30 @@ pub(crate) fn plan(
     count: &[u8],
     child: &[u16],
     partial: &[f64],
-    root: Operand,
 ) -> Planned
     ensures { λ x. ⌜
         carried-out x (machine tape (arrays {N = floats} (now (value .entry)) (now (adjoint .entry)) (now (serial .entry)) (now (count .entry)) (now (child .entry)) (now (partial .entry))))
-        ≡ step (pass (pass-of which root)) (machine tape (arrays (now (value .entry)) (now (adjoint .entry)) (now (serial .entry)) (now (count .entry)) (now (child .entry)) (now (partial .entry)))) ⌝ }
+        ≡ step (pass (pass-of which)) (machine tape (arrays (now (value .entry)) (now (adjoint .entry)) (now (serial .entry)) (now (count .entry)) (now (child .entry)) (now (partial .entry)))) ⌝ }
     ensures { λ x. ⌜ Ready x (now (adjoint .entry)) (now (count .entry)) (now (child .entry)) (now (partial .entry)) ⌝ }
 {
     if !tape.admits(value, adjoint, serial, count, child, partial) {
         return Planned::Refused(Refusal::Misshapen);
     }
-    match find_root(which, root, tape, serial) {
+    match find_root(which, tape, serial) {
         Root::Refused(refusal) => Planned::Refused(refusal),
-        Root::None => without_root(range_of(which, tape, NO_ROOT), count, child),
-        Root::At(handle) => with_root(handle, range_of(which, tape, handle), count, child),
+        Root::None => without_root(range_of(which, tape), count, child),
+        Root::At(handle) => with_root(handle, range_of(which, tape), count, child),
     }
 }
 
 // The root, if the pass has one: a number is refused, and so is a handle that is not live.
-fn find_root(which: Pass, root: Operand, tape: Tape, serial: &[u64]) -> Root
-    ensures { λ x. ⌜ x ≡ found-root (tape .length) (now (serial .entry)) (Calls·plan (pass-of which root) tape .root) ⌝ }
+fn find_root(which: Pass, tape: Tape, serial: &[u64]) -> Root
+    ensures { λ x. ⌜ x ≡ found-root (tape .length) (now (serial .entry)) (Calls·plan (pass-of which) tape .root) ⌝ }
 {
     match which {
-        Pass::Backward => find_operand(root, tape.length, serial),
-        Pass::BackwardToMark => find_operand(root, tape.length, serial),
-        Pass::BackwardMarkToStart => find_operand(root, tape.length, serial),
+        Pass::Backward(root) => find_operand(root, tape.length, serial),
+        Pass::BackwardToMark(root) => find_operand(root, tape.length, serial),
+        Pass::BackwardMarkToStart(root) => find_operand(root, tape.length, serial),
         Pass::PropagateToMark => Root::None,
         Pass::PropagateMarkToStart => Root::None,
     }
@@ -108,20 +101,30 @@ fn find_node(handle: Handle, nodes: usize, serial: &[u64]) -> Root
     }
 }
 
-// The range that the pass walks, with its root at the handle.
-fn range_of(which: Pass, tape: Tape, handle: Handle) -> Span
-    requires { ⌜ handle .index ≤ 65535 ⌝ }
-    ensures { λ x. ⌜ x ≡ span-of (Calls·plan (pass-of which (Operand.Node handle)) tape) ⌝ }
+// The range that the pass walks.
+fn range_of(which: Pass, tape: Tape) -> Span
+    requires { ⌜ Calls·plan (pass-of which) tape .end ≤ most-nodes ⌝ }
+    ensures { λ x. ⌜ x ≡ span-of (Calls·plan (pass-of which) tape) ⌝ }
 {
     match which {
-        Pass::Backward => Span {
+        Pass::Backward(root) => root_to_start(root),
+        Pass::BackwardToMark(_) => to_mark(tape),
+        Pass::BackwardMarkToStart(_) => mark_to_start(tape),
+        Pass::PropagateToMark => to_mark(tape),
+        Pass::PropagateMarkToStart => mark_to_start(tape),
+    }
+}
+
+fn root_to_start(root: Operand) -> Span
+    requires { ⌜ past (operand root) ≤ most-nodes ⌝ }
+    ensures { λ x. ⌜ x ≡ record { from = 0; end = past (operand root) } ⌝ }
+{
+    match root {
+        Operand::Number(_) => Span { from: 0, end: 0 },
+        Operand::Node(handle) => Span {
             from: 0,
             end: handle.index + 1,
         },
-        Pass::BackwardToMark => to_mark(tape),
-        Pass::BackwardMarkToStart => mark_to_start(tape),
-        Pass::PropagateToMark => to_mark(tape),
-        Pass::PropagateMarkToStart => mark_to_start(tape),
     }
 }
 

@@ -13,16 +13,16 @@ use Rattle.tape.specs.Numbers.{floats}
 use Rattle.tape.specs.Machine.{Machine, capacity, fits}
 use Rattle.tape.specs.Handles.{live, worth, handles, operand}
 use Rattle.tape.specs.Operations.{Row, row, rows, as-stored, apply, known, one-sided, used}
-use Rattle.tape.specs.Answers.{Answer, refused, detached, recorded}
+use Rattle.tape.specs.Answers.{Answer, refused, detached}
 use Rattle.tape.specs.Walk.{Edge}
-use Rattle.tape.specs.Calls.{edge, edges, operate, issued, written, any-stale, last-serial, step}
+use Rattle.tape.specs.Calls.{edge, edges, operate, any-stale, last-serial, step}
 use Rattle.tape.specs.declared.errors.Refusal.{Refusal}
 use Rattle.tape.specs.declared.errors.Refusal.the-variants.{Misshapen, UnknownOperation, NotLive, Full, SerialsSpent}
 use Rattle.tape.specs.declared.node.Operand.{Operand}
 use Rattle.tape.specs.declared.node.Operand.the-variants.{Number, Node}
 use Rattle.tape.proofs.Tests.{by-or, Fit, fit}
 use Rattle.expr.specs.Outcome.{given}
-use Rattle.expr.specs.Inner.{Reads, decided, found-operand, unlinked, made-from, made-of, row-by, row-of, edge-of, edges-of, edges-told, settled}
+use Rattle.expr.specs.Inner.{Reads, decided, found-operand, unlinked, made-from, made-of, row-by, row-of, edge-of, edges-of, edges-told, kept, settled}
 use Rattle.expr.specs.declared.operations.Supplied.{Supplied}
 use Rattle.expr.specs.declared.recording.Source.{Source}
 use Rattle.expr.specs.declared.recording.Found as found
@@ -164,8 +164,8 @@ module _ (M : Machine floats) where
 -- refusals 5 and 6, as the table has them and as the code goes about them
 room-so : (M : Machine floats) (v : Float) (es : List (Edge floats)) (a b d : Bool)
     → _≡_ {A = Outcome}
-    (cond (a && b) (refused Full, M) (cond (a && d) (refused SerialsSpent, M) (cond a (recorded v (issued (M .state)), written M v es) (detached v, M))))
-    (cond a (cond b (refused Full, M) (cond d (refused SerialsSpent, M) (recorded v (issued (M .state)), written M v es))) (detached v, M))
+    (cond (a && b) (refused Full, M) (cond (a && d) (refused SerialsSpent, M) (cond a (kept M v es) (detached v, M))))
+    (cond a (cond b (refused Full, M) (cond d (refused SerialsSpent, M) (kept M v es))) (detached v, M))
 room-so M v es true b d = refl
 room-so M v es false b d = refl
 

@@ -2,3 +2,4 @@ pub mod Table
 pub mod Rooms
 pub mod Decided
 pub mod OneToOne
+pub mod Proved

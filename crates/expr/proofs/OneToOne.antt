@@ -1,5 +1,4 @@
 -- What a recording's answer says can be read back from its number, value and handle and the state.
-use Prim.Native.Nat.{ℕ}
 use mathlib.Core.Path.{_≡_, refl, sym, ap, _∙_}
 use mathlib.Core.Option.{Option, none, some}
 use lib.Ieee.{Float}

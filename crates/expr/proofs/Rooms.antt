@@ -1,28 +1,14 @@
--- A machine that fits is short, and where it is not full, its arrays have room for a node.
-use Prim.Native.Nat.{_≤_}
+-- Where a machine that fits is not full, its arrays have room for a node.
 use mathlib.Core.Path.{_≡_}
 use mathlib.Core.Bool.{true}
-use mathlib.Core.List.{List}
-use borrow.Author.Tests.{ne-eqb}
-use lib.Ieee.{Float}
 use native.Mathlib.Omega.{arith}
 use Rattle.tape.specs.Numbers.{floats}
-use Rattle.tape.specs.Machine.{Machine, capacity, fits}
-use Rattle.tape.specs.Answers.{recorded}
-use Rattle.tape.specs.Walk.{Edge}
-use Rattle.tape.specs.Calls.{issued, written, last-serial}
+use Rattle.tape.specs.Machine.{Arrays, machine, capacity, fits}
+use Rattle.tape.specs.declared.state.Tape.{Tape}
 use Rattle.tape.proofs.Tests.{Fit, fit}
-use Rattle.expr.specs.Inner.{Room, settled}
+use Rattle.expr.specs.Inner.{Room}
 
-pub room : (M : Machine floats) → fits true M ≡ true → (M .state .length ≡ capacity (M .lent) → ⊥) → Room (M .state .length) (M .lent)
-room M shape free =
-    let f : Fit M = fit M shape in
+pub room : (t : Tape) (A : Arrays floats) → fits true (machine t A) ≡ true → (t .length ≡ capacity A → ⊥) → Room (t .length) A
+room t A shape free =
+    let f : Fit (machine t A) = fit (machine t A) shape in
     record { value = omega arith; adjoint = omega arith; serial = omega arith; edges = record { count = omega arith; child = omega arith; partial = omega arith } }
-
-pub short : (M : Machine floats) → fits true M ≡ true → M .state .length ≤ 65535
-short M shape = let f : Fit M = fit M shape in omega arith
-
--- active, not full and with a serial left: the node is written
-pub settled-there : (M : Machine floats) (v : Float) (es : List (Edge floats)) → M .state .active ≡ true → (M .state .length ≡ capacity (M .lent) → ⊥) → (M .state .next ≡ last-serial → ⊥)
-    → (recorded v (issued (M .state)), written M v es) ≡ settled M v es
-settled-there M v es active free left = rw (active, ne-eqb _ _ free, ne-eqb _ _ left)

@@ -2,7 +2,7 @@
 use Prim.Native.Nat.{ℕ, suc, _≤_}
 use native.Mathlib.Omega.{arith}
 use mathlib.Core.Path.{_≡_, refl, ap, _∙_}
-use mathlib.Core.Bool.{Bool, false, cond}
+use mathlib.Core.Bool.{Bool, false}
 use mathlib.Core.Option.{none}
 use borrow.Author.Tests.{le-ltb}
 use lib.Ieee.{Float, nan}
@@ -11,7 +11,6 @@ use Rattle.tape.specs.Numbers.{floats}
 use Rattle.tape.specs.Operations.{Given, Row, row, rows, known, apply}
 use Rattle.expr.specs.Inner.{told-row, row-of, uses-of}
 use Rattle.expr.specs.declared.operations.Row as code
-use Rattle.expr.specs.declared.operations.Uses.{Uses}
 use Rattle.expr.specs.declared.operations.Uses.the-variants.{Unknown}
 
 up : (k op : ℕ) → k ≤ op → (op ≡ k → ⊥) → suc k ≤ op

@@ -108,6 +108,9 @@ decided n values serials op left right g = decided-by (uses-of op) n values seri
 
 -- ---- room, and the node's place
 
+abbrev pub kept : Machine floats → Float → List (Edge floats) → Answer floats × Machine floats
+kept M v es = (recorded v (issued (M .state)), written M v es)
+
 abbrev pub settled : Machine floats → Float → List (Edge floats) → Answer floats × Machine floats
 settled M v es =
     cond
@@ -115,7 +118,7 @@ settled M v es =
     (cond
     (eqb (M .state .length) (capacity (M .lent)))
     (refused Full, M)
-    (cond (eqb (M .state .next) last-serial) (refused SerialsSpent, M) (recorded v (issued (M .state)), written M v es)))
+    (cond (eqb (M .state .next) last-serial) (refused SerialsSpent, M) (kept M v es)))
     (detached v, M)
 
 pub record EdgeRoom (i : ℕ) (counts children : List ℕ) (partials : List Float) : Type 0 where

@@ -8,6 +8,7 @@ use tape::MOST_EDGES;
 use tape::Operand;
 use tape::Refusal;
 use tape::Tape;
+ghost use Prim.Native.Nat.{_<_};
 ghost use mathlib.Core.Path.{_≡_};
 ghost use mathlib.Core.Bool.{true};
 ghost use mathlib.Core.List.{map};
@@ -16,9 +17,9 @@ ghost use lib.Seq.{sets};
 ghost use Rattle.tape.specs.Numbers.{floats};
 ghost use Rattle.tape.specs.Machine.{arrays, machine, slot, fits};
 ghost use Rattle.tape.specs.Handles.{operand};
-ghost use Rattle.tape.specs.Calls.{step, operate, with-node};
+ghost use Rattle.tape.specs.Calls.{step, operate, with-node, last-serial};
 ghost use Rattle.expr.specs.Outcome.{given, outcome};
-ghost use Rattle.expr.specs.Inner.{Reads, Room, EdgeRoom, decided, found-operand, found-node, unlinked, made-from, made-beside, made-of, edge-of, edges-of, edges-told, settled};
+ghost use Rattle.expr.specs.Inner.{Reads, Room, EdgeRoom, decided, found-operand, found-node, unlinked, made-from, made-beside, made-of, edge-of, edges-of, edges-told, kept, settled};
 
 // What a recording answers: a value and its node's handle, or a value alone where the tape is inactive, with the state after it; or the refusal and the state as it was.
 pub enum Recorded {
@@ -209,7 +210,7 @@ fn link_both(l: Source, p: f64, r: Source, q: f64) -> Edges
     Edges::Two(l.child, p, r.child, q)
 }
 
-// Writes the node if the tape is active and has room for it.
+// Keeps the node if the tape is active and has room for it.
 fn settle(
     tape: Tape,
     value: &mut [f64],
@@ -235,6 +236,35 @@ fn settle(
     if tape.next == LAST_SERIAL {
         return Recorded::Refused(Refusal::SerialsSpent, tape);
     }
+    keep(
+        tape,
+        value,
+        adjoint,
+        serial,
+        count,
+        child,
+        partial,
+        v,
+        edges,
+    )
+}
+
+fn keep(
+    tape: Tape,
+    value: &mut [f64],
+    adjoint: &mut [f64],
+    serial: &mut [u64],
+    count: &mut [u8],
+    child: &mut [u16],
+    partial: &mut [f64],
+    v: f64,
+    edges: Edges,
+) -> Recorded
+    requires { ⌜ (tape .next < last-serial) × Room (tape .length) (arrays {N = floats} (now value) (now adjoint) (now serial) (now count) (now child) (now partial)) ⌝ }
+    ensures { λ x. ⌜
+        outcome x (arrays {N = floats} (now (value .exit)) (now (adjoint .exit)) (now (serial .exit)) (now (count .exit)) (now (child .exit)) (now (partial .exit)))
+        ≡ kept (machine tape (arrays (now (value .entry)) (now (adjoint .entry)) (now (serial .entry)) (now (count .entry)) (now (child .entry)) (now (partial .entry)))) v (edges-told edges) ⌝ }
+{
     let handle = Handle {
         index: tape.length,
         serial: tape.next,

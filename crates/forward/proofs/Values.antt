@@ -1,6 +1,6 @@
 -- The innermost value goes by value parts alone, so each line is the line of the order below.
 use Prim.Native.Nat.{ℕ, zero, suc}
-use mathlib.Core.Path.{_≡_, refl, _∙_, ap}
+use mathlib.Core.Path.{refl, _∙_, ap}
 use lib.Ieee.{binary64, sub, div}
 use Rattle.forward.specs.Forward.{value, constant}
 use Rattle.forward.specs.Values.{Values}

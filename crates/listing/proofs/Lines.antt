@@ -11,7 +11,7 @@ use Rattle.tape.specs.Walk.{indexes}
 use Rattle.tape.specs.Listing.{decimal, header, line, lines, listing}
 use Rattle.tape.specs.declared.state.Tape.{Tape}
 use Rattle.listing.specs.Inner.{shown}
-use Rattle.listing.proofs.Numerals.{length-hex, decimal-short}
+use Rattle.listing.proofs.Numerals.{length-hex, beyond, longer, index-length}
 
 one-digit : (b : Bool) → length (decimal (cond b 1 0)) ≡ 1
 one-digit true = refl
@@ -24,9 +24,14 @@ module _ (A : Arrays floats) where
   pub line-length : (i : ℕ) → length (line A i) ≡ 48 + length (decimal i)
   line-length i = simp (length-append, length-hex) (omega arith)
 
-  pub lines-short : (i k : ℕ) → length (lines A (indexes i k)) ≤ 68 * k
-  lines-short i zero = omega arith
-  lines-short i (suc k) = omega (arith, length-append (line A i) (lines A (indexes (suc i) k)), line-length i, decimal-short i, lines-short (suc i) k)
+  part-length : (n i k : ℕ) → n ≤ 100000 → i + k ≡ n → length (lines A (indexes i k)) + longer i ≡ 49 * k + longer n
+  part-length n i zero h e = let f : i ≡ n = omega arith in rw f (omega arith)
+  part-length n i (suc k) h e =
+      omega (arith, length-append (line A i) (lines A (indexes (suc i) k)), line-length i, index-length i (omega arith), part-length n (suc i) k h (omega arith))
+
+  pub lines-length : (n : ℕ) → n ≤ 100000 → length (lines A (indexes 0 n)) ≡ 49 * n + ((n - 10) + (n - 100) + (n - 1000) + (n - 10000))
+  unfolding beyond
+  lines-length n h = omega (arith, part-length n 0 n h (omega arith))
 
   -- the lines from i on
   abbrev pub lines-from : ℕ → ℕ → List ℕ

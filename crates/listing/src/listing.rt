@@ -2,7 +2,7 @@
 use crate::digits::HEX_DIGITS;
 use tape::Refusal;
 use tape::Tape;
-ghost use Prim.Native.Nat.{_+_, _≤_, _<_};
+ghost use Prim.Native.Nat.{_+_, _-_, _≤_, _<_};
 ghost use mathlib.Core.Path.{_≡_};
 ghost use mathlib.Core.List.{_++_};
 ghost use lib.Ieee.{binary64, toBits};
@@ -60,17 +60,26 @@ fn listing_length(tape: Tape) -> usize
     HEADER_BYTES + nodes + mark + lines_length(tape.length)
 }
 
+// Every index has a digit, and one more from 10, from 100, from 1,000 and from 10,000 on.
 fn lines_length(nodes: usize) -> usize
     requires { ⌜ nodes ≤ 65535 ⌝ }
     ensures { λ x. ⌜ ((A : Arrays floats) → x ≡ length (lines A (indexes 0 nodes))) ⌝ }
 {
-    let mut total = 0;
-    let mut i = 0;
-    while i < nodes {
-        total += LINE_BYTES + crate::digits::decimal_length(i);
-        i += 1;
+    nodes * (LINE_BYTES + 1)
+        + beyond(nodes, 10)
+        + beyond(nodes, 100)
+        + beyond(nodes, 1_000)
+        + beyond(nodes, 10_000)
+}
+
+// How many of the first n indexes are at least `first`.
+fn beyond(n: usize, first: usize) -> usize
+    ensures { λ x. ⌜ x ≡ n - first ⌝ }
+{
+    if n <= first {
+        return 0;
     }
-    total
+    n - first
 }
 
 fn write_header(out: &mut [u8], at: usize, tape: Tape) -> usize

@@ -1,26 +1,49 @@
 -- A call that is not refused does what `carried` says, a range that is cut in two is walked in two, and what a pass walks ends at or below the length.
-use Prim.Native.Nat.{ℕ, suc, _+_, _-_, _≤_, zero-le}
+use Prim.Native.Nat.{ℕ, zero, suc, _+_, _-_, _≤_, _<_, zero-le}
 use native.Mathlib.Nat.{zero-add, add-zero, add-suc, suc-add, sub-self, add-sub-of-le}
 use native.Mathlib.Omega.{arith}
 use mathlib.Core.Path.{_≡_, refl, sym, ap, subst, _∙_}
-use mathlib.Core.Bool.{true, false, true≢false, or-false}
+use mathlib.Core.Bool.{true, false, true≢false, or-false, and-eq-true-iff}
 use mathlib.Core.List.{List, [], _∷_, _++_, map, map-append}
-use borrow.Author.Tests.{not-true, not-false}
-use lib.ListN.{length, length-map}
+use borrow.Author.Tests.{ltb-true, not-true, not-false}
+use lib.Dec.{ltb}
+use lib.ListN.{length, getD, set, length-map}
+use lib.Seq.{getD-set-other}
 use Rattle.tape.specs.Numbers.{Numbers}
-use Rattle.tape.specs.Machine.{Arrays, Machine, machine, all, fits}
+use Rattle.tape.specs.Machine.{Arrays, Machine, machine, slot, all, fits}
 use Rattle.tape.specs.Handles.{plain, node, handles}
-use Rattle.tape.specs.Walk.{Edge, walk, edges-at, indexes, sum, visited, sound}
-use Rattle.tape.specs.Answers.{Answer, number, done, counted}
+use Rattle.tape.specs.Walk.{Edge, push, walk, edges-from, edges-at, indexes, sum, visited, sound}
+use Rattle.tape.specs.Answers.{Answer, done, counted}
 use Rattle.tape.specs.Calls.{reset-mark, Pass, backward, backward-to-mark, backward-mark-to-start, propagate-to-mark, propagate-mark-to-start, Call, move, operate, clear, pass, value-of, adjoint-of, is-live, list, moved, with-adjoints, plan, asked, any-stale, refusals, carried, step, run}
 use Rattle.tape.specs.Kept.{fresh, after}
-use Rattle.tape.specs.Passes.{OnlyAdjoints, EmptyRange, BothRanges, NeverUnsound, Unrefused, counts, in-one, in-two}
+use Rattle.tape.specs.Passes.{EachEdge, push-edge-by-edge, OnlyAdjoints, EmptyRange, BothRanges, NeverUnsound, Unrefused, counts, in-one, in-two}
 use Rattle.tape.specs.declared.errors.Refusal.the-variants.{UnsoundEdge}
 use Rattle.tape.proofs.OneToOne.{by-number, at-refusal, told}
 use Rattle.tape.proofs.Ranges.{length-indexes, indexes-cut, sum-append, all-append, all-below}
 use Rattle.tape.proofs.Recording.{SoundNodes, recording}
 use Rattle.tape.proofs.Steps.{Hit, here, there, Passed, by-refusal, lives-told}
 use Rattle.tape.proofs.Tests.{by-test, Fit, fit, state-fit-so, refits}
+
+-- ---- each edge
+
+read-once : {N : Numbers} (i : ℕ) (es : List (Edge N)) (s : List (N .Number)) → all (map (λ e. ltb (e .child) i) es) ≡ true → push-edge-by-edge i es s ≡ push (getD s i (N .blank)) es s
+read-once i [] s below = refl
+read-once {N} i (e ∷ es) s below =
+    let both = and-eq-true-iff (ltb (e .child) i) (all (map (λ e. ltb (e .child) i) es)) .0 below in
+    let c : e .child < i = ltb-true _ _ (both .0) in
+    let v = N .plus (getD s (e .child) (N .blank)) (N .times (e .weight) (getD s i (N .blank))) in
+    read-once i es (set s (e .child) v) (both .1) ∙ ap (λ a. push a es (set s (e .child) v)) (getD-set-other s (e .child) i v (N .blank) (λ q. omega arith))
+
+length-edges : (N : Numbers) (cs : List ℕ) (ps : List (N .Number)) (s k : ℕ) → length (edges-from {N = N} cs ps s k) ≡ k
+length-edges N cs ps s zero = refl
+length-edges N cs ps s (suc k) = ap suc (length-edges N cs ps (suc s) k)
+
+counted-once : {N : Numbers} (A : Arrays N) (range : List ℕ) → visited A range ≡ sum (map (λ i. length (edges-at A i)) range)
+counted-once A [] = refl
+counted-once {N} A (i ∷ range) = rw (length-edges N (A .child) (A .partial) (slot i) (getD (A .count) i 0), counted-once A range)
+
+pub each-edge : EachEdge
+each-edge = record { read-once = read-once; counted-once = counted-once }
 
 -- ---- what is left alone
 

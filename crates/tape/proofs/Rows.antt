@@ -1,8 +1,8 @@
--- Every row holds: both sides are computed.
+-- Every row and every text holds: both sides are computed.
 use mathlib.Core.Path.{refl}
 use lib.Ieee.{add, sub, mul, div, neg, lt, le, ofInt, ofBits, toBits}
 use Rattle.tape.specs.Calls.{step}
-use Rattle.tape.specs.Rows.{EveryRow}
+use Rattle.tape.specs.Rows.{EveryRow, EveryText}
 
 pub every-row : EveryRow
 unfolding step add sub mul div neg lt le ofInt ofBits toBits
@@ -40,7 +40,28 @@ every-row = (
                                 (refl, (refl, tt)),
                                 (
                                   (refl, (refl, tt)),
-                                  ((refl, (refl, tt)), tt),
+                                  (
+                                    (refl, (refl, tt)),
+                                    (
+                                      (refl, (refl, tt)),
+                                      (
+                                        (refl, (refl, tt)),
+                                        (
+                                          (refl, (refl, tt)),
+                                          (
+                                            (refl, (refl, tt)),
+                                            (
+                                              (refl, (refl, tt)),
+                                              (
+                                                (refl, (refl, tt)),
+                                                ((refl, (refl, tt)), tt),
+                                              ),
+                                            ),
+                                          ),
+                                        ),
+                                      ),
+                                    ),
+                                  ),
                                 ),
                               ),
                             ),
@@ -58,3 +79,6 @@ every-row = (
     ),
   ),
 )
+
+pub every-text : EveryText
+every-text = (refl, refl, refl, refl, refl)

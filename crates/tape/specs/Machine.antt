@@ -29,6 +29,10 @@ machine t A = record { state = t; lent = A }
 abbrev pub capacity : {N : Numbers} → Arrays N → ℕ
 capacity A = length (A .value)
 
+-- a tape has room for no more nodes
+abbrev pub most-nodes : ℕ
+most-nodes = 65535
+
 -- a node has room for two edges, which stand from its slot on
 abbrev pub most-edges : ℕ
 most-edges = 2
@@ -48,7 +52,7 @@ all (b ∷ bs) = b && all bs
 -- the array lengths fit one n, and n is at most 65,535
 abbrev pub arrays-fit : {N : Numbers} → Arrays N → List Bool
 arrays-fit A =
-    leb (capacity A) 65535
+    leb (capacity A) most-nodes
     ∷ eqb (length (A .adjoint)) (capacity A)
     ∷ eqb (length (A .serial)) (capacity A)
     ∷ eqb (length (A .count)) (capacity A)
@@ -62,4 +66,4 @@ state-fits n t = leb (t .length) n ∷ leb (t .mark) (t .length) ∷ not (eqb (t
 
 -- a call that is lent no tape array tests the state alone, with 65,535 for n
 abbrev pub fits : {N : Numbers} → Bool → Machine N → Bool
-fits lent M = cond lent (all (arrays-fit (M .lent) ++ state-fits (capacity (M .lent)) (M .state))) (all (state-fits 65535 (M .state)))
+fits lent M = cond lent (all (arrays-fit (M .lent) ++ state-fits (capacity (M .lent)) (M .state))) (all (state-fits most-nodes (M .state)))

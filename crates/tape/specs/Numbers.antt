@@ -18,7 +18,7 @@ pub record Numbers : Type 1 where
   pub stored : Number → Number
   -- the bit pattern by which a listing shows a number
   pub bits : Number → ℕ
-  -- what stands past the end of an array and of the operations table; no answer depends on it
+  -- what stands past the end of an array and of the operations table, where the refusals let no call read
   pub blank : Number
 
 -- IEEE 754 binary64. `nought` is +0.0, `one` is 1.0, a partial is stored as it is, and any NaN has the bits 7ff8000000000000 (`toBits`)

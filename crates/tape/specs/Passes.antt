@@ -3,14 +3,25 @@ use Prim.Native.Nat.{ℕ, _+_}
 use mathlib.Core.Path.{_≡_}
 use mathlib.Core.Bool.{true}
 use mathlib.Core.List.{List, [], _∷_, _++_, map}
-use lib.ListN.{length}
+use lib.Dec.{ltb}
+use lib.ListN.{length, getD, set}
 use Rattle.tape.specs.Numbers.{Numbers}
-use Rattle.tape.specs.Machine.{Arrays, Machine, fits}
+use Rattle.tape.specs.Machine.{Arrays, Machine, all, fits}
 use Rattle.tape.specs.Handles.{Operand}
-use Rattle.tape.specs.Walk.{Edge, walk, sum}
+use Rattle.tape.specs.Walk.{Edge, push, walk, edges-at, sum, visited}
 use Rattle.tape.specs.Answers.{Answer, counted}
 use Rattle.tape.specs.Calls.{move, reset-mark, Pass, Call, pass, propagate-to-mark, propagate-mark-to-start, clear, value-of, adjoint-of, is-live, list, with-adjoints, step, run}
 use Rattle.tape.specs.Kept.{fresh, after}
+
+-- document 01's words to the letter, the adjoint of node i read again for each edge
+abbrev pub push-edge-by-edge : {N : Numbers} → ℕ → List (Edge N) → List (N .Number) → List (N .Number)
+push-edge-by-edge i [] adjoints = adjoints
+push-edge-by-edge {N} i (e ∷ es) adjoints = push-edge-by-edge i es (set adjoints (e .child) (N .plus (getD adjoints (e .child) (N .blank)) (N .times (e .weight) (getD adjoints i (N .blank)))))
+
+-- where no edge goes from a node to itself, it can be read once; and the sum of the edge counts is the number of edges. Proved in proofs/Passes.antt
+pub record EachEdge : Type 1 where
+  pub read-once : {N : Numbers} (i : ℕ) (es : List (Edge N)) (adjoints : List (N .Number)) → all (map (λ e. ltb (e .child) i) es) ≡ true → push-edge-by-edge i es adjoints ≡ push (getD adjoints i (N .blank)) es adjoints
+  pub counted-once : {N : Numbers} (A : Arrays N) (range : List ℕ) → visited A range ≡ sum (map (λ i. length (edges-at A i)) range)
 
 -- passes and clearing change nothing but adjoints, and reads and the listing change nothing. Proved in proofs/Passes.antt
 pub record OnlyAdjoints : Type 1 where

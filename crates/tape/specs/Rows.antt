@@ -3,7 +3,7 @@
 use Prim.Native.Nat.{ℕ, _+_, _^_}
 use Prim.Native.String.{String}
 use mathlib.Core.Path.{_≡_}
-use mathlib.Core.Bool.{false}
+use mathlib.Core.Bool.{true, false}
 use mathlib.Core.List.{List, [], _∷_, _++_}
 use lib.IntN.{pos}
 use lib.Ieee.{Float, nan, inf, binary64, ofInt, neg}
@@ -12,11 +12,11 @@ use Rattle.tape.specs.Numbers.{floats}
 use Rattle.tape.specs.Machine.{Arrays, Machine, arrays, machine, slot}
 use Rattle.tape.specs.Handles.{Operand, plain, node}
 use Rattle.tape.specs.Operations.{Given}
-use Rattle.tape.specs.Listing.{bytes, listing}
+use Rattle.tape.specs.Listing.{bytes, decimal, hex, header, listing}
 use Rattle.tape.specs.Answers.{Answer, refused, done, told, recorded, counted}
-use Rattle.tape.specs.Calls.{Call, move, start, set-mark, rewind-to-mark, operate, clear, pass, backward, backward-to-mark, backward-mark-to-start, propagate-to-mark, propagate-mark-to-start, value-of, adjoint-of, is-live, list, run}
+use Rattle.tape.specs.Calls.{Pass, Call, move, start, set-mark, rewind-to-mark, operate, clear, pass, backward, backward-to-mark, backward-mark-to-start, propagate-to-mark, propagate-mark-to-start, value-of, adjoint-of, is-live, list, run}
 use Rattle.tape.specs.Kept.{fresh, after}
-use Rattle.tape.specs.declared.errors.Refusal.the-variants.{NotLive, Detached, UnsoundEdge, ListingTooLong}
+use Rattle.tape.specs.declared.errors.Refusal.the-variants.{Misshapen, NotLive, Detached, UnsoundEdge, ListingTooLong}
 use Rattle.tape.specs.declared.node.Handle.{Handle}
 
 -- ---- what a row is
@@ -67,8 +67,8 @@ handle i s = record { index = i; serial = s }
 abbrev pub first : ℕ → Handle
 first i = handle i (i + 1)
 
-abbrev pub n : ℕ → Operand floats
-n i = node (first i)
+abbrev pub node-at : ℕ → Operand floats
+node-at i = node (first i)
 
 abbrev pub given : Float → Float → Float → Given floats
 given v p q = record { value = v; left = p; right = q }
@@ -100,7 +100,7 @@ weighed-twice left right p q = operate 9 left right (given (float 1) p q)
 
 -- the listing's four nodes: leaves 3 and 2, their product, the product plus the first leaf, and backward from the last
 abbrev pub four-calls : List (Call floats)
-four-calls = move start ∷ leaf (float 3) ∷ leaf (float 2) ∷ times (n 0) (n 1) ∷ plus (n 2) (n 0) ∷ pass (backward (n 3)) ∷ []
+four-calls = move start ∷ leaf (float 3) ∷ leaf (float 2) ∷ times (node-at 0) (node-at 1) ∷ plus (node-at 2) (node-at 0) ∷ pass (backward (node-at 3)) ∷ []
 
 abbrev pub four-answers : List (Answer floats)
 four-answers = done ∷ recorded (float 3) (first 0) ∷ recorded (float 2) (first 1) ∷ recorded (float 6) (first 2) ∷ recorded (float 9) (first 3) ∷ counted 4 ∷ []
@@ -131,7 +131,7 @@ P2 =
 
 -- P3 x*x at 3: adjoint 6, count 2. P4 backward again without clearing: 12
 abbrev pub squared : List (Call floats)
-squared = move start ∷ leaf (float 3) ∷ times (n 0) (n 0) ∷ pass (backward (n 1)) ∷ []
+squared = move start ∷ leaf (float 3) ∷ times (node-at 0) (node-at 0) ∷ pass (backward (node-at 1)) ∷ []
 
 abbrev pub squared-answers : List (Answer floats)
 squared-answers = done ∷ recorded (float 3) (first 0) ∷ recorded (float 9) (first 1) ∷ counted 2 ∷ []
@@ -140,7 +140,7 @@ abbrev pub P3 : Row
 P3 = record { before = fresh (sevens 2); calls = squared; answers = squared-answers; sights = adjoints (float 6 ∷ float 1 ∷ []) ∷ [] }
 
 abbrev pub P4 : Row
-P4 = record { before = fresh (sevens 2); calls = squared ++ (pass (backward (n 1)) ∷ []); answers = squared-answers ++ (counted 2 ∷ []); sights = adjoints (float 12 ∷ float 1 ∷ []) ∷ [] }
+P4 = record { before = fresh (sevens 2); calls = squared ++ (pass (backward (node-at 1)) ∷ []); answers = squared-answers ++ (counted 2 ∷ []); sights = adjoints (float 12 ∷ float 1 ∷ []) ∷ [] }
 
 -- P5 plain 2 times plain 3, active: a node with no edge
 abbrev pub P5 : Row
@@ -155,25 +155,26 @@ P5 = record {
 abbrev pub P6 : Row
 P6 = record {
   before = fresh (sevens 3);
-  calls = move start ∷ leaf (float 1) ∷ leaf (float 1) ∷ max (n 0) (n 1) ∷ [];
+  calls = move start ∷ leaf (float 1) ∷ leaf (float 1) ∷ max (node-at 0) (node-at 1) ∷ [];
   answers = done ∷ recorded (float 1) (first 0) ∷ recorded (float 1) (first 1) ∷ recorded (float 1) (first 2) ∷ [];
   sights = edge-counts (0 ∷ 0 ∷ 2 ∷ []) ∷ partials (float 7 ∷ float 7 ∷ float 7 ∷ float 7 ∷ float 0 ∷ float 0 ∷ []) ∷ [];
 }
 
--- P7 mark form to start with a root at or past the mark: root adjoint 1, its edges not walked. The model is x and x*x, passed back once before; the mark stands at 2
-abbrev pub marked : Operand floats → List Sight → Row
-marked root sights = record {
+-- a pass, with how many edges it visits, on x and x*x, passed back once before, then the mark, x*x*x, and x*x*x + x
+abbrev pub marked : Pass floats → ℕ → List Sight → Row
+marked p edges sights = record {
   before = fresh (sevens 4);
-  calls = squared ++ (move set-mark ∷ times (n 1) (n 0) ∷ plus (n 2) (n 0) ∷ pass (backward-mark-to-start root) ∷ []);
-  answers = squared-answers ++ (done ∷ recorded (float 27) (first 2) ∷ recorded (float 30) (first 3) ∷ counted 2 ∷ []);
+  calls = squared ++ (move set-mark ∷ times (node-at 1) (node-at 0) ∷ plus (node-at 2) (node-at 0) ∷ pass p ∷ []);
+  answers = squared-answers ++ (done ∷ recorded (float 27) (first 2) ∷ recorded (float 30) (first 3) ∷ counted edges ∷ []);
   sights = sights;
 }
 
+-- P7 mark form to start with a root at or past the mark: root adjoint 1, its edges not walked
 abbrev pub P7-at-the-mark : Row
-P7-at-the-mark = marked (n 2) (adjoints (float 12 ∷ float 1 ∷ float 1 ∷ float 0 ∷ []) ∷ [])
+P7-at-the-mark = marked (backward-mark-to-start (node-at 2)) 2 (adjoints (float 12 ∷ float 1 ∷ float 1 ∷ float 0 ∷ []) ∷ [])
 
 abbrev pub P7-past-it : Row
-P7-past-it = marked (n 3) (adjoints (float 12 ∷ float 1 ∷ float 0 ∷ float 1 ∷ []) ∷ [])
+P7-past-it = marked (backward-mark-to-start (node-at 3)) 2 (adjoints (float 12 ∷ float 1 ∷ float 0 ∷ float 1 ∷ []) ∷ [])
 
 -- P8 rewind, then record at the same index: adjoint +0.0, the old handle refused 3, as operand, root and read
 abbrev pub P8 : Row
@@ -182,8 +183,8 @@ P8 =
     let new = node (handle 1 3) in
     record {
       before = fresh (sevens 2);
-      calls = move start ∷ leaf (float 3) ∷ move set-mark ∷ plus (n 0) (n 0) ∷ pass (backward old) ∷ is-live old ∷ move rewind-to-mark ∷ leaf (float 2)
-          ∷ adjoint-of new ∷ plus old (n 0) ∷ pass (backward old) ∷ value-of old ∷ adjoint-of old ∷ is-live old ∷ is-live new ∷ [];
+      calls = move start ∷ leaf (float 3) ∷ move set-mark ∷ plus (node-at 0) (node-at 0) ∷ pass (backward old) ∷ is-live old ∷ move rewind-to-mark ∷ leaf (float 2)
+          ∷ adjoint-of new ∷ plus old (node-at 0) ∷ pass (backward old) ∷ value-of old ∷ adjoint-of old ∷ is-live old ∷ is-live new ∷ [];
       answers = done ∷ recorded (float 3) (first 0) ∷ done ∷ recorded (float 6) (handle 1 2) ∷ counted 2 ∷ counted 1 ∷ done ∷ recorded (float 2) (handle 1 3)
           ∷ told (float 0) ∷ refused NotLive ∷ refused NotLive ∷ refused NotLive ∷ refused NotLive ∷ counted 0 ∷ counted 1 ∷ [];
       sights = adjoints (float 2 ∷ float 0 ∷ []) ∷ [];
@@ -191,23 +192,26 @@ P8 =
 
 -- a root in the middle: what stands above it is not walked
 abbrev pub in-the-middle : Row
-in-the-middle = on-four (pass (backward (n 2)) ∷ []) (counted 2 ∷ []) (adjoints (float 5 ∷ float 6 ∷ float 1 ∷ float 1 ∷ float 7 ∷ []) ∷ [])
+in-the-middle = on-four (pass (backward (node-at 2)) ∷ []) (counted 2 ∷ []) (adjoints (float 5 ∷ float 6 ∷ float 1 ∷ float 1 ∷ float 7 ∷ []) ∷ [])
 
--- to the mark with a root: the walk begins at the end, wherever the root lies, and stops at the mark
-abbrev pub to-the-mark : Row
-to-the-mark =
-    record {
-      before = fresh (sevens 4);
-      calls = squared ++ (move set-mark ∷ times (n 1) (n 0) ∷ plus (n 2) (n 0) ∷ pass (backward-to-mark (n 3)) ∷ pass (backward-to-mark (n 0)) ∷ []);
-      answers = squared-answers ++ (done ∷ recorded (float 27) (first 2) ∷ recorded (float 30) (first 3) ∷ counted 4 ∷ counted 4 ∷ []);
-      sights = adjoints (float 20 ∷ float 10 ∷ float 2 ∷ float 1 ∷ []) ∷ [];
-    }
+-- the mark forms with a root elsewhere: the same range, wherever the root lies
+abbrev pub start-from-below : Row
+start-from-below = marked (backward-mark-to-start (node-at 0)) 2 (adjoints (float 7 ∷ float 1 ∷ float 0 ∷ float 0 ∷ []) ∷ [])
+
+abbrev pub mark-from-the-end : Row
+mark-from-the-end = marked (backward-to-mark (node-at 3)) 4 (adjoints (float 16 ∷ float 4 ∷ float 1 ∷ float 1 ∷ []) ∷ [])
+
+abbrev pub mark-from-between : Row
+mark-from-between = marked (backward-to-mark (node-at 2)) 4 (adjoints (float 15 ∷ float 4 ∷ float 1 ∷ float 0 ∷ []) ∷ [])
+
+abbrev pub mark-from-below : Row
+mark-from-below = marked (backward-to-mark (node-at 0)) 4 (adjoints (float 1 ∷ float 1 ∷ float 0 ∷ float 0 ∷ []) ∷ [])
 
 -- no edge is skipped for a zero adjoint: infinity times zero is no number
 abbrev pub zero-adjoint : Row
 zero-adjoint = record {
   before = fresh (sevens 3);
-  calls = move start ∷ leaf (float 3) ∷ weighed (n 0) (inf false) ∷ leaf (float 2) ∷ pass (backward (n 2)) ∷ [];
+  calls = move start ∷ leaf (float 3) ∷ weighed (node-at 0) (inf false) ∷ leaf (float 2) ∷ pass (backward (node-at 2)) ∷ [];
   answers = done ∷ recorded (float 3) (first 0) ∷ recorded (float 1) (first 1) ∷ recorded (float 2) (first 2) ∷ counted 1 ∷ [];
   sights = adjoints (nan ∷ float 0 ∷ float 1 ∷ []) ∷ [];
 }
@@ -216,7 +220,7 @@ zero-adjoint = record {
 abbrev pub left-first : Row
 left-first = record {
   before = fresh (sevens 4);
-  calls = move start ∷ leaf (float 3) ∷ weighed-twice (n 0) (n 0) (float 1) (neg (float (2 ^ 53))) ∷ weighed (n 0) (float (2 ^ 53)) ∷ plus (n 1) (n 2) ∷ pass (backward (n 3)) ∷ [];
+  calls = move start ∷ leaf (float 3) ∷ weighed-twice (node-at 0) (node-at 0) (float 1) (neg (float (2 ^ 53))) ∷ weighed (node-at 0) (float (2 ^ 53)) ∷ plus (node-at 1) (node-at 2) ∷ pass (backward (node-at 3)) ∷ [];
   answers = done ∷ recorded (float 3) (first 0) ∷ recorded (float 1) (first 1) ∷ recorded (float 1) (first 2) ∷ recorded (float 2) (first 3) ∷ counted 5 ∷ [];
   sights = adjoints (float 0 ∷ float 1 ∷ float 1 ∷ float 1 ∷ []) ∷ [];
 }
@@ -230,7 +234,7 @@ abbrev pub plain-numbers : Row
 plain-numbers =
     let x = plain (float 5) in
     on-four
-    (value-of x ∷ is-live x ∷ adjoint-of x ∷ pass (backward x) ∷ pass (backward-to-mark x) ∷ pass (backward-mark-to-start x) ∷ value-of (n 2) ∷ adjoint-of (n 1) ∷ [])
+    (value-of x ∷ is-live x ∷ adjoint-of x ∷ pass (backward x) ∷ pass (backward-to-mark x) ∷ pass (backward-mark-to-start x) ∷ value-of (node-at 2) ∷ adjoint-of (node-at 1) ∷ [])
     (told (float 5) ∷ counted 0 ∷ refused Detached ∷ refused Detached ∷ refused Detached ∷ refused Detached ∷ told (float 6) ∷ told (float 3) ∷ [])
     (four-adjoints ∷ [])
 
@@ -241,6 +245,37 @@ own-child = record {
   calls = pass (backward (node (handle 2 7))) ∷ pass (backward-to-mark (node (handle 0 7))) ∷ pass propagate-to-mark ∷ pass (backward-mark-to-start (node (handle 2 7))) ∷ [];
   answers = refused UnsoundEdge ∷ refused UnsoundEdge ∷ refused UnsoundEdge ∷ counted 0 ∷ [];
   sights = adjoints (float 7 ∷ float 7 ∷ float 1 ∷ []) ∷ [];
+}
+
+-- three edges are refused 7, after 3 and 4 for the root, and not where the walk does not reach them
+abbrev pub three-edges : Row
+three-edges = record {
+  before = machine (record { length = 2; mark = 0; active = false; next = 8 }) (arrays (replicate 2 (float 7)) (replicate 2 (float 7)) (7 ∷ 7 ∷ []) (0 ∷ 3 ∷ []) (replicate 4 0) (replicate 4 (float 1)));
+  calls = pass (backward (node (handle 1 7))) ∷ pass (backward (node (handle 1 6))) ∷ pass (backward (plain (float 1))) ∷ pass (backward (node (handle 0 7))) ∷ [];
+  answers = refused UnsoundEdge ∷ refused NotLive ∷ refused Detached ∷ counted 0 ∷ [];
+  sights = adjoints (float 1 ∷ float 7 ∷ []) ∷ [];
+}
+
+-- a mark over the length: every call is refused 1, before anything else
+abbrev pub mark-over-length : Row
+mark-over-length = record {
+  before = machine (record { length = 1; mark = 2; active = true; next = 8 }) (sevens 2);
+  calls = move start ∷ times (node-at 0) (node-at 0) ∷ clear ∷ pass (backward (node-at 0)) ∷ pass propagate-to-mark ∷ value-of (node-at 0) ∷ adjoint-of (plain (float 1)) ∷ is-live (node-at 0) ∷ list 0 ∷ [];
+  answers = replicate 9 (refused Misshapen);
+  sights = adjoints (float 7 ∷ float 7 ∷ []) ∷ [];
+}
+
+-- an empty tape has a header alone
+abbrev pub listed-empty : Row
+listed-empty = record { before = fresh (sevens 0); calls = move start ∷ list 24 ∷ []; answers = done ∷ counted 24 ∷ []; sights = lists "nodes=0 mark=0 active=1\n" ∷ [] }
+
+-- the sign of a zero shows
+abbrev pub listed-zero : Row
+listed-zero = record {
+  before = fresh (sevens 1);
+  calls = move start ∷ leaf (neg (float 0)) ∷ [];
+  answers = done ∷ recorded (neg (float 0)) (first 0) ∷ [];
+  sights = lists "nodes=1 mark=0 active=1\nnode=0 val=8000000000000000 adj=0000000000000000\n" ∷ [];
 }
 
 -- any NaN is listed as 7ff8000000000000; 24 bytes of header and 49 of line do not fit 72
@@ -255,7 +290,17 @@ listed-nan = record {
 abbrev pub rows : List Row
 rows =
     P1-to-start ∷ P1-to-mark ∷ P2 ∷ P3 ∷ P4 ∷ P5 ∷ P6 ∷ P7-at-the-mark ∷ P7-past-it ∷ P8
-    ∷ in-the-middle ∷ to-the-mark ∷ zero-adjoint ∷ left-first ∷ clearing ∷ plain-numbers ∷ own-child ∷ listed-nan ∷ []
+    ∷ in-the-middle ∷ start-from-below ∷ mark-from-the-end ∷ mark-from-between ∷ mark-from-below ∷ zero-adjoint ∷ left-first
+    ∷ clearing ∷ plain-numbers ∷ own-child ∷ three-edges ∷ mark-over-length ∷ listed-empty ∷ listed-zero ∷ listed-nan ∷ []
 
 abbrev pub EveryRow : Type 0
 EveryRow = All rows
+
+-- the listing's numbers, where a line of the rows has too few digits to tell. Proved in proofs/Rows.antt
+abbrev pub EveryText : Type 0
+EveryText =
+    (header (record { length = 65535; mark = 10; active = false; next = 1 }) ≡ bytes "nodes=65535 mark=10 active=0\n")
+    × (decimal 0 ≡ bytes "0")
+    × (decimal 100 ≡ bytes "100")
+    × (decimal 18446744073709551615 ≡ bytes "18446744073709551615")
+    × (hex 0x0123_4567_89ab_cdef ≡ bytes "0123456789abcdef")

@@ -9,6 +9,7 @@ pub use errors::Refusal;
 pub use node::Handle;
 pub use node::Lookup;
 pub use node::MOST_EDGES;
+pub use node::MOST_NODES;
 pub use node::Operand;
 pub use state::Moved;
 pub use state::Tape;

@@ -2,6 +2,9 @@
 ghost use mathlib.Core.Path.{_≡_};
 ghost use Rattle.tape.specs.Handles.{looked-up};
 
+// How many nodes a tape has room for, so that a child's index fits 16 bits.
+pub const MOST_NODES: usize = 65_535;
+
 // How many edges a node has room for.
 pub const MOST_EDGES: usize = 2;
 

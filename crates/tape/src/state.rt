@@ -1,10 +1,11 @@
 // The tape's small state. Start, stop, marks and rewinds take it by value and hand it back, as it was where they refuse. None of them touches an array.
 use crate::errors::Refusal;
 use crate::node::MOST_EDGES;
+use crate::node::MOST_NODES;
 ghost use mathlib.Core.Path.{_≡_};
 ghost use mathlib.Core.Bool.{true, cond};
 ghost use Rattle.tape.specs.Numbers.{floats};
-ghost use Rattle.tape.specs.Machine.{Arrays, arrays, machine, new-tape, all, state-fits, fits};
+ghost use Rattle.tape.specs.Machine.{Arrays, arrays, machine, most-nodes, new-tape, all, state-fits, fits};
 ghost use Rattle.tape.specs.Calls.{step, move, start, stop, set-mark, reset-mark, rewind-to-mark, rewind-to-init};
 ghost use Rattle.tape.specs.Answers.{outcome};
 
@@ -118,7 +119,7 @@ impl Tape {
             (now (partial .entry)))) ⌝ }
     {
         let capacity = value.len();
-        if 65_535 < capacity {
+        if MOST_NODES < capacity {
             return false;
         }
         let slots = MOST_EDGES * capacity;
@@ -139,9 +140,9 @@ impl Tape {
 
     // The state after, unless this one does not fit.
     fn moved_to(self, after: Tape) -> Moved
-        ensures { λ x. ⌜ x ≡ cond (all (state-fits 65535 self)) (Moved.Done after) (Moved.Refused Refusal.Misshapen self) ⌝ }
+        ensures { λ x. ⌜ x ≡ cond (all (state-fits most-nodes self)) (Moved.Done after) (Moved.Refused Refusal.Misshapen self) ⌝ }
     {
-        if self.state_fits(65_535) {
+        if self.state_fits(MOST_NODES) {
             return Moved::Done(after);
         }
         Moved::Refused(Refusal::Misshapen, self)

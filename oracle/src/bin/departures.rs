@@ -220,11 +220,12 @@ fn print_old_operand(leaf: Dual<f64>, old: Dual<f64>, new: Dual<f64>) {
     );
 }
 
-/// After a rewind to init the first node recorded takes the slot of the leaf that it is made of.
+/// After a rewind to init the leaf still tells its value, and the first node recorded takes the slot of the leaf that it is made of.
 fn print_own_child() {
     Tape::start_recording();
     let leaf: Dual<f64> = Dual::new(3.0);
     Tape::rewind_to_init();
+    println!("rewound to init: value={:016x}", bits(leaf.value()));
     let square: Dual<f64> = (leaf * leaf).into();
     println!(
         "rewound to init: a node and the leaf it is made of are the same node={}",

@@ -3,7 +3,7 @@ use native.Mathlib.Omega.{arith}
 use mathlib.Core.List.{[]}
 use borrow.Author.Needs.{needs}
 use Rattle.listing.specs.Inner.{shown}
-use Rattle.listing.proofs.Lines.{listing-length, lines-short}
+use Rattle.listing.proofs.Lines.{listing-length, lines-length}
 use Rattle.listing.proofs.Numerals.{decimal-short}
 use Rattle.listing.proofs.listing.listing_length.Statement.{statement}
 use Rattle.listing.proofs.listing.listing_length.Tie as tie
@@ -11,7 +11,7 @@ use Rattle.listing.proofs.listing.listing_length.Tie as tie
 add-result-3 : tie.Need-add-result-3
 add-result-3 c =
     let t = c .before .before .before .args .tape in
-    omega (arith, decimal-short (t .length), decimal-short (t .mark), c .lines-length .ensures (shown [] []), lines-short (shown [] []) 0 (t .length))
+    omega (arith, decimal-short (t .length), decimal-short (t .mark), c .lines-length .ensures (shown [] []), lines-length (shown [] []) (t .length) (omega arith))
 
 pub listing-length-spec : {M : Type 1} → statement M
 listing-length-spec =

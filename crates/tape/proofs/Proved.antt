@@ -1,0 +1,48 @@
+-- The statements of specs/, each with its proof.
+use Rattle.tape.specs.Answers.{Told}
+use Rattle.tape.specs.Kept.{StaleHandles, Revived, Serials, Recording}
+use Rattle.tape.specs.Passes.{EachEdge, OnlyAdjoints, EmptyRange, BothRanges, NeverUnsound}
+use Rattle.tape.specs.Rows.{EveryRow, EveryText}
+use Rattle.tape.proofs.OneToOne as one-to-one
+use Rattle.tape.proofs.Passes as passes
+use Rattle.tape.proofs.Recording as recorded
+use Rattle.tape.proofs.Revived as alive
+use Rattle.tape.proofs.Rows as rows
+use Rattle.tape.proofs.Serials as counted
+use Rattle.tape.proofs.Stale as stale
+
+told : Told
+told = one-to-one.told
+
+stale-handles : StaleHandles
+stale-handles = stale.stale-handles
+
+revived : Revived
+revived = alive.revived
+
+serials : Serials
+serials = counted.serials-kept
+
+recording : Recording
+recording = recorded.recording
+
+each-edge : EachEdge
+each-edge = passes.each-edge
+
+only-adjoints : OnlyAdjoints
+only-adjoints = passes.only-adjoints
+
+empty-range : EmptyRange
+empty-range = passes.empty-range
+
+both-ranges : BothRanges
+both-ranges = passes.both-ranges
+
+never-unsound : NeverUnsound
+never-unsound = passes.never-unsound
+
+every-row : EveryRow
+every-row = rows.every-row
+
+every-text : EveryText
+every-text = rows.every-text
