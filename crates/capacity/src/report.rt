@@ -2,14 +2,13 @@
 use crate::filling::Filled;
 use expr::Recorded;
 use libc::STDOUT_FILENO;
+use listing::bits_of;
 use tape::Handle;
 use tape::Moved;
 use tape::Refusal;
 use tape::Tape;
 
 const DIGITS: usize = 16;
-
-const NAN: u64 = 0x7ff8_0000_0000_0000;
 
 pub(crate) fn moved(capacity: usize, call: &[u8], answer: Moved) -> Tape {
     begin(capacity, call);
@@ -74,12 +73,7 @@ fn node(handle: Handle) {
 
 fn float(x: f64) {
     text(b" value=");
-    io::print_hex(STDOUT_FILENO, bits(x), DIGITS);
-}
-
-// f64::to_bits is not defined at a NaN.
-fn bits(x: f64) -> u64 {
-    if x != x { NAN } else { f64::to_bits(x) }
+    io::print_hex(STDOUT_FILENO, bits_of(x), DIGITS);
 }
 
 fn number(name: &[u8], x: u64) {

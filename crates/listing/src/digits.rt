@@ -1,4 +1,4 @@
-// A 64-bit pattern in hex, and an index in decimal.
+// A float's bits, a 64-bit pattern in hex, and an index in decimal.
 ghost use Prim.Native.Nat.{_+_, _≤_, _<_};
 ghost use mathlib.Core.Path.{_≡_};
 ghost use lib.Ieee.{binary64, toBits};
@@ -6,6 +6,16 @@ ghost use lib.ListN.{length};
 ghost use lib.Seq.{sets};
 ghost use Rattle.tape.specs.Listing.{digit, digits, hex, decimal};
 ghost use Rattle.listing.specs.Inner.{Wrote};
+
+// The bits by which a listing shows x: one pattern for every NaN.
+pub fn bits_of(x: f64) -> u64
+    ensures { λ bits. ⌜ bits ≡ toBits binary64 x ⌝ }
+{
+    if x != x {
+        return 0x7ff8_0000_0000_0000;
+    }
+    f64::to_bits(x)
+}
 
 pub(crate) const HEX_DIGITS: usize = 16;
 
@@ -37,16 +47,6 @@ pub(crate) fn decimal_length(n: usize) -> usize
         places += 1;
     }
     places
-}
-
-// The bits by which a listing shows x: one pattern for every NaN.
-pub(crate) fn bits_of(x: f64) -> u64
-    ensures { λ bits. ⌜ bits ≡ toBits binary64 x ⌝ }
-{
-    if x != x {
-        return 0x7ff8_0000_0000_0000;
-    }
-    f64::to_bits(x)
 }
 
 // Writes the last `places` digits of n.

@@ -2,4 +2,5 @@
 mod digits;
 pub mod listing;
 
+pub use digits::bits_of;
 pub use listing::Listed;

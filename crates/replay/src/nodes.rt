@@ -1,9 +1,9 @@
 // An operation recorded by the port on a tape of its own, and the node that comes of it.
 use crate::words::float_of;
-use crate::words::word_of;
 use expr::Recorded;
 use expr::Supplied;
 use expr::recording::record;
+use listing::bits_of;
 use tape::Moved;
 use tape::Operand;
 use tape::Tape;
@@ -231,7 +231,7 @@ fn node_at(
     }
     let first = 2 * index;
     Outcome::Node(Node {
-        value: word_of(v),
+        value: bits_of(v),
         count: count[index],
         first: edge_at(child, partial, first),
         second: edge_at(child, partial, first + 1),
@@ -243,6 +243,6 @@ fn edge_at(child: &[u16; SLOTS], partial: &[f64; SLOTS], at: usize) -> Edge
 {
     Edge {
         child: child[at],
-        partial: word_of(partial[at]),
+        partial: bits_of(partial[at]),
     }
 }

@@ -4,8 +4,8 @@ use crate::kinds::*;
 use crate::words::Answer;
 use crate::words::Case;
 use crate::words::float_of;
-use crate::words::word_of;
 use forward::Fwd1;
+use listing::bits_of;
 ghost use Prim.Native.Nat.{_+_, _≤_};
 
 // The words of a number.
@@ -51,8 +51,8 @@ fn number(kind: usize, x: Fwd1, y: Fwd1, k: f64) -> Fwd1 {
 }
 
 fn read_out(x: Fwd1, got: &mut Answer) {
-    got[0] = word_of(x.value());
-    got[1] = word_of(x.first_derivative());
+    got[0] = bits_of(x.value());
+    got[1] = bits_of(x.first_derivative());
 }
 
 fn compare(x: Fwd1, y: Fwd1) -> u64 {
@@ -91,6 +91,6 @@ pub(crate) fn from_words(case: &Case, at: usize) -> Fwd1
 pub(crate) fn to_words(x: Fwd1, got: &mut Answer, at: usize)
     requires { ⌜ at + 2 ≤ 16 ⌝ }
 {
-    got[at] = word_of(x.val);
-    got[at + 1] = word_of(x.dot);
+    got[at] = bits_of(x.val);
+    got[at + 1] = bits_of(x.dot);
 }

@@ -5,8 +5,8 @@ use crate::order1;
 use crate::words::Answer;
 use crate::words::Case;
 use crate::words::float_of;
-use crate::words::word_of;
 use forward::Fwd2;
+use listing::bits_of;
 ghost use Prim.Native.Nat.{_+_, _≤_};
 
 // The words of a number.
@@ -52,9 +52,9 @@ fn number(kind: usize, x: Fwd2, y: Fwd2, k: f64) -> Fwd2 {
 }
 
 fn read_out(x: Fwd2, got: &mut Answer) {
-    got[0] = word_of(x.value());
-    got[1] = word_of(x.first_derivative());
-    got[2] = word_of(x.second_derivative());
+    got[0] = bits_of(x.value());
+    got[1] = bits_of(x.first_derivative());
+    got[2] = bits_of(x.second_derivative());
 }
 
 fn compare(x: Fwd2, y: Fwd2) -> u64 {

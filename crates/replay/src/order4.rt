@@ -5,8 +5,8 @@ use crate::order3;
 use crate::words::Answer;
 use crate::words::Case;
 use crate::words::float_of;
-use crate::words::word_of;
 use forward::Fwd4;
+use listing::bits_of;
 ghost use Prim.Native.Nat.{_+_, _≤_};
 
 // The words of a number.
@@ -52,11 +52,11 @@ fn number(kind: usize, x: Fwd4, y: Fwd4, k: f64) -> Fwd4 {
 }
 
 fn read_out(x: Fwd4, got: &mut Answer) {
-    got[0] = word_of(x.value());
-    got[1] = word_of(x.first_derivative());
-    got[2] = word_of(x.second_derivative());
-    got[3] = word_of(x.third_derivative());
-    got[4] = word_of(x.fourth_derivative());
+    got[0] = bits_of(x.value());
+    got[1] = bits_of(x.first_derivative());
+    got[2] = bits_of(x.second_derivative());
+    got[3] = bits_of(x.third_derivative());
+    got[4] = bits_of(x.fourth_derivative());
 }
 
 fn compare(x: Fwd4, y: Fwd4) -> u64 {

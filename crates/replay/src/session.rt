@@ -9,7 +9,6 @@ use crate::kinds;
 use crate::kinds::*;
 use crate::nodes::NOTHING;
 use crate::words::digest;
-use crate::words::word_of;
 use dual::Cleared;
 use dual::Passed;
 use dual::Read;
@@ -21,6 +20,7 @@ use dual::passes::propagate_mark_to_start;
 use dual::passes::propagate_to_mark;
 use expr::Recorded;
 use expr::recording::record;
+use listing::bits_of;
 use tape::Handle;
 use tape::Moved;
 use tape::Operand;
@@ -184,8 +184,8 @@ fn after_move(answer: Moved) -> Heard {
 
 fn after_recording(answer: Recorded) -> Heard {
     match answer {
-        Recorded::Node(x, handle, tape) => with_node(number(tape, BARE, word_of(x)), handle),
-        Recorded::Detached(x, tape) => number(tape, DETACHED, word_of(x)),
+        Recorded::Node(x, handle, tape) => with_node(number(tape, BARE, bits_of(x)), handle),
+        Recorded::Detached(x, tape) => number(tape, DETACHED, bits_of(x)),
         Recorded::Refused(refusal, tape) => refused(tape, refusal),
     }
 }
@@ -206,7 +206,7 @@ fn after_clearing(tape: Tape, answer: Cleared) -> Heard {
 
 fn after_read(tape: Tape, answer: Read) -> Heard {
     match answer {
-        Read::Number(x) => number(tape, BARE, word_of(x)),
+        Read::Number(x) => number(tape, BARE, bits_of(x)),
         Read::Refused(refusal) => refused(tape, refusal),
     }
 }

@@ -147,10 +147,6 @@ pub(crate) fn float_of(bits: u64) -> f64 {
     }
 }
 
-pub(crate) fn word_of(x: f64) -> u64 {
-    if x != x { NAN } else { f64::to_bits(x) }
-}
-
 // Whether the answer that starts at `from` is the first `count` words of what the port got.
 pub(crate) fn is_same(case: &Case, from: usize, got: &Answer, count: usize) -> bool
     requires { ⌜ (from ≤ 32) × (count ≤ 16) ⌝ }
@@ -170,7 +166,7 @@ pub(crate) fn digest(floats: &[f64], length: usize) -> u64 {
         if i >= length {
             break;
         }
-        sum = stirred(sum ^ word_of(floats[i]));
+        sum = stirred(sum ^ bits_of(floats[i]));
     }
     sum
 }
