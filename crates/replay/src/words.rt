@@ -1,4 +1,5 @@
 // A float's 64 bits, as they stand in a list: 16 lower-case hex digits. Any NaN counts as one NaN.
+use listing::bits_of;
 ghost use mathlib.Core.Path.{_≡_};
 ghost use Prim.Native.Nat.{_+_, _*_, _≤_};
 ghost use lib.Ieee.{binary64, nanBits};
