@@ -16,22 +16,14 @@ use Rattle.tape.specs.Numbers.{floats}
 use Rattle.tape.specs.Machine.{Arrays, slot, all}
 use Rattle.tape.specs.Walk.{Edge, push, walk, edges-from, edges-at, indexes, visited, sound}
 use Rattle.tape.proofs.Passes.{walk-cut, visited-cut}
+use Rattle.tape.proofs.Ranges.{less-one, nothing-left, indexes-first}
 use Rattle.dual.specs.Inner.{EdgeRoom, NodeRoom, Within, Walkable, edge-arrays, sound-edges}
 use Rattle.dual.specs.declared.planning.Span.{Span}
 
 -- ---- the first of what is left
 
-less-one : (i end : ℕ) → i < end → end - i ≡ suc (end - (i + 1))
-less-one i end h = omega arith
-
-pub indexes-first : (i end : ℕ) → i < end → indexes i (end - i) ≡ i ∷ indexes (i + 1) (end - (i + 1))
-indexes-first i end h = rw (less-one i end h, add-one i)
-
 pub edges-first : (cs : List ℕ) (ps : List Float) (s end : ℕ) → s < end → edges-from {N = floats} cs ps s (end - s) ≡ record { child = getD cs s 0; weight = getD ps s nan } ∷ edges-from cs ps (s + 1) (end - (s + 1))
 edges-first cs ps s end h = rw (less-one s end h, add-one s)
-
-pub nothing-left : (i end : ℕ) → end ≤ i → end - i ≡ 0
-nothing-left i end h = omega arith
 
 -- ---- clearing
 

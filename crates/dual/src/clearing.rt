@@ -28,7 +28,7 @@ pub fn reset_adjoints(
 ) -> Cleared
     ensures { λ x. ⌜
         reset x (machine tape (arrays {N = floats} (now (value .entry)) (now (adjoint .exit)) (now (serial .entry)) (now (count .entry)) (now (child .entry)) (now (partial .entry))))
-        ≡ step (clear) (machine tape (arrays (now (value .entry)) (now (adjoint .entry)) (now (serial .entry)) (now (count .entry)) (now (child .entry)) (now (partial .entry)))) ⌝ }
+        ≡ step clear (machine tape (arrays (now (value .entry)) (now (adjoint .entry)) (now (serial .entry)) (now (count .entry)) (now (child .entry)) (now (partial .entry)))) ⌝ }
 {
     if !tape.admits(value, adjoint, serial, count, child, partial) {
         return Cleared::Refused(Refusal::Misshapen);

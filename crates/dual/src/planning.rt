@@ -65,8 +65,14 @@ pub(crate) fn plan(
     }
     match find_root(which, tape, serial) {
         Root::Refused(refusal) => Planned::Refused(refusal),
-        Root::None => without_root(range_of(which, tape), count, child),
-        Root::At(handle) => with_root(handle, range_of(which, tape), count, child),
+        Root::None => {
+            let span = range_of(which, tape);
+            if_sound(Planned::Unrooted(span), span, count, child)
+        }
+        Root::At(handle) => {
+            let span = range_of(which, tape);
+            if_sound(Planned::Rooted(handle, span), span, count, child)
+        }
     }
 }
 
@@ -146,22 +152,13 @@ fn mark_to_start(tape: Tape) -> Span
     }
 }
 
-fn with_root(handle: Handle, span: Span, count: &[u8], child: &[u16]) -> Planned
+// The plan, unless a node of its range cannot be walked.
+fn if_sound(planned: Planned, span: Span, count: &[u8], child: &[u16]) -> Planned
     requires { ⌜ Within span (now count) (now child) ⌝ }
-    ensures { λ x. ⌜ x ≡ cond (all-sound (now (count .entry)) (now (child .entry)) span) (Planned.Rooted handle span) (Planned.Refused Refusal.UnsoundEdge) ⌝ }
+    ensures { λ x. ⌜ x ≡ cond (all-sound (now (count .entry)) (now (child .entry)) span) planned (Planned.Refused Refusal.UnsoundEdge) ⌝ }
 {
     if is_sound_between(span, count, child) {
-        return Planned::Rooted(handle, span);
-    }
-    Planned::Refused(Refusal::UnsoundEdge)
-}
-
-fn without_root(span: Span, count: &[u8], child: &[u16]) -> Planned
-    requires { ⌜ Within span (now count) (now child) ⌝ }
-    ensures { λ x. ⌜ x ≡ cond (all-sound (now (count .entry)) (now (child .entry)) span) (Planned.Unrooted span) (Planned.Refused Refusal.UnsoundEdge) ⌝ }
-{
-    if is_sound_between(span, count, child) {
-        return Planned::Unrooted(span);
+        return planned;
     }
     Planned::Refused(Refusal::UnsoundEdge)
 }

@@ -10,6 +10,7 @@ use Rattle.tape.specs.Machine.{Arrays, machine}
 use Rattle.tape.specs.Walk.{indexes}
 use Rattle.tape.specs.Listing.{decimal, header, line, lines, listing}
 use Rattle.tape.specs.declared.state.Tape.{Tape}
+use Rattle.tape.proofs.Ranges.{nothing-left, indexes-first}
 use Rattle.listing.specs.Inner.{shown}
 use Rattle.listing.proofs.Numerals.{length-hex, beyond, longer, index-length}
 
@@ -38,16 +39,13 @@ module _ (A : Arrays floats) where
   lines-from n i = lines A (indexes i (n - i))
 
   pub first-line : (n i : ℕ) → i < n → lines-from n i ≡ line A i ++ lines-from n (i + 1)
-  first-line n i h =
-      let e : n - i ≡ suc (n - (i + 1)) = omega arith in
-      let f : i + 1 ≡ suc i = omega arith in
-      rw (e, f)
+  first-line n i h = ap (lines A) (indexes-first i n h)
 
   pub first-length : (n i : ℕ) → i < n → length (lines-from n i) ≡ 48 + length (decimal i) + length (lines-from n (i + 1))
   first-length n i h = ap length (first-line n i h) ∙ rw (length-append (line A i) (lines-from n (i + 1)), line-length i)
 
   pub no-line : (n i : ℕ) → n ≤ i → lines-from n i ≡ []
-  no-line n i h = let e : n - i ≡ 0 = omega arith in rw e
+  no-line n i h = rw (nothing-left i n h)
 
   pub shown-so : (is : List ℕ) → lines A is ≡ lines (shown (A .value) (A .adjoint)) is
   shown-so [] = refl

@@ -1,6 +1,7 @@
 -- Lists of indexes, sums and tests taken apart in two: by induction on the first part.
 use Prim.Native.Nat.{ℕ, zero, suc, _+_, _-_, _≤_, _<_}
 use native.Mathlib.Nat.{zero-add, add-zero, add-suc, suc-add, add-assoc, le-refl, add-sub-of-le}
+use native.Mathlib.Numerals.{add-one}
 use native.Mathlib.Omega.{arith}
 use mathlib.Core.Path.{_≡_, refl, sym, ap}
 use mathlib.Core.Bool.{Bool, true, _&&_, and-assoc}
@@ -12,6 +13,16 @@ use Rattle.tape.specs.Walk.{indexes, sum}
 pub length-indexes : (i k : ℕ) → length (indexes i k) ≡ k
 length-indexes i zero = refl
 length-indexes i (suc k) = ap suc (length-indexes (suc i) k)
+
+-- the first of what is left
+pub less-one : (i end : ℕ) → i < end → end - i ≡ suc (end - (i + 1))
+less-one i end h = omega arith
+
+pub indexes-first : (i end : ℕ) → i < end → indexes i (end - i) ≡ i ∷ indexes (i + 1) (end - (i + 1))
+indexes-first i end h = rw (less-one i end h, add-one i)
+
+pub nothing-left : (i end : ℕ) → end ≤ i → end - i ≡ 0
+nothing-left i end h = omega arith
 
 pub indexes-append : (i j k : ℕ) → indexes i (j + k) ≡ indexes i j ++ indexes (i + j) k
 indexes-append i zero k = simp (zero-add, add-zero)

@@ -45,13 +45,15 @@ Unrefused (a ∷ rest) = (a .number ≡ 0) × Unrefused rest
 abbrev pub counts : {N : Numbers} → List (Answer N) → ℕ
 counts answers = sum (map (λ a. a .count) answers)
 
--- from the end to the mark and then from the mark to the start is one walk of both ranges; with the mark at 0, a pass to the mark is that walk. Proved in proofs/Passes.antt
+-- from the end to the mark, then from the mark to the start
 abbrev pub in-two : (N : Numbers) → List (Call N)
 in-two N = pass propagate-to-mark ∷ pass propagate-mark-to-start ∷ []
 
+-- with the mark at 0, a pass to the mark walks everything
 abbrev pub in-one : (N : Numbers) → List (Call N)
 in-one N = move reset-mark ∷ pass propagate-to-mark ∷ []
 
+-- the two passes are one walk of both ranges. Proved in proofs/Passes.antt
 pub record BothRanges : Type 1 where
   pub of-nodes : {N : Numbers} (i : ℕ) (low high : List (List (Edge N))) (adjoints : List (N .Number)) → walk i (low ++ high) adjoints ≡ walk i low (walk (i + length low) high adjoints)
   pub unrefused : {N : Numbers} (M : Machine N) → Unrefused (run (in-two N) M .0) → Unrefused (run (in-one N) M .0)

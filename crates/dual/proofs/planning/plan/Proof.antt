@@ -31,5 +31,5 @@ plan-spec =
     (λ c κs. end-small (M (c .before .before .before .before .before)) (fitting (c .before .before .before .before)) (c .before .before .before .before .before .before .before .before .before .before .before .before .args .which) _ (c .before .before .before .find-root .ensures) (node-sound _ (c .before .handle .given .1)))
     (λ c κs. range-within (M (c .before .before .before .before .before .before)) (fitting (c .before .before .before .before .before)) (c .before .before .before .before .before .before .before .before .before .before .before .before .before .args .which) _ (c .before .before .before .before .find-root .ensures) (node-sound _ (c .before .before .handle .given .1)) _ (c .range-of2 .ensures))
     (λ c. refuses (M (c .before .before .before .before .before)) (fitting (c .before .before .before .before)) (c .before .before .before .before .before .before .before .before .before .before .before .before .args .which) _ (c .before .before .before .find-root .ensures) _ (c .before .refusal .given .1))
-    (λ c. settled-by (M (c .before .before .before .before .before .before)) (fitting (c .before .before .before .before .before)) (c .before .before .before .before .before .before .before .before .before .before .before .before .before .args .which) _ (c .before .before .before .before .find-root .ensures) _ (c .before .before .enum-told .given .1) _ (c .before .range-of .ensures) _ (c .without-root .ensures))
-    (λ c. settled-by (M (c .before .before .before .before .before .before .before)) (fitting (c .before .before .before .before .before .before)) (c .before .before .before .before .before .before .before .before .before .before .before .before .before .before .args .which) _ (c .before .before .before .before .before .find-root .ensures) _ (c .before .before .before .handle .given .1) _ (c .before .range-of2 .ensures) _ (c .with-root .ensures)))
+    (λ c. settled-by (M (c .before .before .before .before .before .before)) (fitting (c .before .before .before .before .before)) (c .before .before .before .before .before .before .before .before .before .before .before .before .before .args .which) _ (c .before .before .before .before .find-root .ensures) _ (c .before .before .enum-told .given .1) _ (c .before .range-of .ensures) _ (c .if-sound .ensures))
+    (λ c. settled-by (M (c .before .before .before .before .before .before .before)) (fitting (c .before .before .before .before .before .before)) (c .before .before .before .before .before .before .before .before .before .before .before .before .before .before .args .which) _ (c .before .before .before .before .before .find-root .ensures) _ (c .before .before .before .handle .given .1) _ (c .before .range-of2 .ensures) _ (c .if-sound2 .ensures)))

@@ -1,10 +1,10 @@
 -- The test decides.
 use mathlib.Core.Path.{sym, _∙_}
-use Rattle.dual.proofs.planning.without_root.Statement.{statement}
-use Rattle.dual.proofs.planning.without_root.Tie as tie
+use Rattle.dual.proofs.planning.if_sound.Statement.{statement}
+use Rattle.dual.proofs.planning.if_sound.Tie as tie
 
-pub without-root-spec : {M : Type 1} → statement M
-without-root-spec =
+pub if-sound-spec : {M : Type 1} → statement M
+if-sound-spec =
     tie.close
     (tie.spec
     (λ c κs. c .before .before .pre)
