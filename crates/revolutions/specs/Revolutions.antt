@@ -1,0 +1,207 @@
+-- The sum over revolutions, demand 3. Read downwards: a session of calls, what its calls mean, the one long tape that they mean, and what is proved. Over any numbers; no law of them is assumed.
+use Prim.Native.Nat.{ℕ, _+_, _-_, _≤_, _<_}
+use mathlib.Core.Path.{_≡_}
+use mathlib.Core.Bool.{Bool, true, false, _&&_, _||_, cond}
+use mathlib.Core.List.{List, [], _∷_, _++_, map}
+use mathlib.Core.Option.{Option, none, some}
+use lib.Dec.{ltb, eqb}
+use lib.ListN.{length, getD, set, take, replicate}
+use Rattle.tape.specs.Numbers.{Numbers}
+use Rattle.tape.specs.Machine.{Machine}
+use Rattle.tape.specs.Handles.{Operand, plain, node}
+use Rattle.tape.specs.Operations.{Given, apply, one-sided}
+use Rattle.tape.specs.Walk.{Edge, walk}
+use Rattle.tape.specs.Calls.{Call, move, start, set-mark, rewind-to-mark, operate, clear, pass, backward-to-mark, propagate-mark-to-start, value-of, adjoint-of, is-live, list, run}
+use Rattle.tape.specs.Kept.{after}
+use Rattle.tape.specs.Passes.{Unrefused}
+use Rattle.tape.specs.declared.node.Handle.{Handle}
+
+-- ---- a session
+
+-- an operation as it is called: its number, its operands, what the host supplies
+pub record Operation (N : Numbers) : Type 0 where
+  pub number : ℕ
+  pub left : Operand N
+  pub right : Operand N
+  pub supplied : Given N
+
+pub record Revolution (N : Numbers) : Type 0 where
+  pub operations : List (Operation N)
+  pub root : Handle
+
+pub record Session (N : Numbers) : Type 0 where
+  pub model : List (Operation N)
+  pub revolutions : List (Revolution N)
+
+abbrev pub recordings : {N : Numbers} → List (Operation N) → List (Call N)
+recordings os = map (λ o. operate (o .number) (o .left) (o .right) (o .supplied)) os
+
+-- each revolution: record it, pass its gradients back to the mark, rewind
+abbrev pub turned : {N : Numbers} → List (Revolution N) → List (Call N)
+turned [] = []
+turned (r ∷ rs) = recordings (r .operations) ++ (pass (backward-to-mark (node (r .root))) ∷ move rewind-to-mark ∷ turned rs)
+
+-- start, record the model, set the mark, clear; the revolutions; at last the walk from the mark to the start
+abbrev pub calls : {N : Numbers} → Session N → List (Call N)
+calls s = move start ∷ recordings (s .model) ++ (move set-mark ∷ clear ∷ turned (s .revolutions) ++ (pass propagate-mark-to-start ∷ []))
+
+-- reads and listings, which may stand anywhere between
+abbrev pub reads : {N : Numbers} → Call N → Bool
+reads (value-of x) = true
+reads (adjoint-of x) = true
+reads (is-live x) = true
+reads (list bytes) = true
+reads (move m) = false
+reads (operate op left right g) = false
+reads clear = false
+reads (pass p) = false
+
+abbrev pub without-reads : {N : Numbers} → List (Call N) → List (Call N)
+without-reads [] = []
+without-reads (c ∷ cs) = cond (reads c) (without-reads cs) (c ∷ without-reads cs)
+
+-- ---- what its calls mean
+
+-- an operand stands for a node of the model, for a node of its own revolution, or for a number
+pub data Meant (N : Numbers) : Type 0 where
+  in-model own : ℕ → Meant N
+  number : N .Number → Meant N
+
+-- behind a model of m nodes. A handle's index tells which node: if the handle is not live, the call is refused
+abbrev pub meant : {N : Numbers} → ℕ → Operand N → Meant N
+meant m (plain x) = number x
+meant m (node h) = cond (ltb (h .index) m) (in-model (h .index)) (own (h .index - m))
+
+-- an operation with its operands so resolved; one that it does not use means nothing, and a zero stands there
+pub record Deed (N : Numbers) : Type 0 where
+  pub operation : ℕ
+  pub left : Meant N
+  pub right : Meant N
+  pub supplied : Given N
+
+abbrev pub deed : {N : Numbers} → ℕ → Operation N → Deed N
+deed {N} m o = record {
+  operation = o .number;
+  left = meant m (o .left);
+  right = cond (one-sided (o .number)) (number (N .nought)) (meant m (o .right));
+  supplied = o .supplied;
+}
+
+-- a revolution: its deeds, and which of its own nodes is the root
+pub record Turn (N : Numbers) : Type 0 where
+  pub deeds : List (Deed N)
+  pub root : ℕ
+
+abbrev pub turn : {N : Numbers} → ℕ → Revolution N → Turn N
+turn m r = record { deeds = map (deed m) (r .operations); root = r .root .index - m }
+
+pub record Meaning (N : Numbers) : Type 0 where
+  pub model : List (Deed N)
+  pub turns : List (Turn N)
+
+-- the nodes of the model are its own: no model stands before it
+abbrev pub meaning : {N : Numbers} → Session N → Meaning N
+meaning s = record { model = map (deed 0) (s .model); turns = map (turn (length (s .model))) (s .revolutions) }
+
+-- ---- the long tape
+
+pub record Node (N : Numbers) : Type 0 where
+  pub value : N .Number
+  pub edges : List (Edge N)
+
+-- the value of an operand, given those of the model's nodes and those of the own nodes so far
+abbrev pub worth : {N : Numbers} → List (N .Number) → List (N .Number) → Meant N → N .Number
+worth {N} models owns (in-model i) = getD models i (N .blank)
+worth {N} models owns (own j) = getD owns j (N .blank)
+worth models owns (number x) = x
+
+-- its edge, if there is a partial for it, where the own nodes stand at b, b + 1 and so on
+abbrev pub edge : {N : Numbers} → ℕ → Meant N → Option (N .Number) → List (Edge N)
+edge b m none = []
+edge b (in-model i) (some p) = record { child = i; weight = p } ∷ []
+edge b (own j) (some p) = record { child = b + j; weight = p } ∷ []
+edge b (number x) (some p) = []
+
+-- the nodes that deeds make by the operations table, standing at b, b + 1 and so on
+abbrev pub nodes : {N : Numbers} → ℕ → List (N .Number) → List (N .Number) → List (Deed N) → List (Node N)
+nodes b models owns [] = []
+nodes b models owns (d ∷ ds) =
+    let s = apply (d .operation) (worth models owns (d .left)) (worth models owns (d .right)) (d .supplied) in
+    record { value = s .value; edges = edge b (d .left) (s .left) ++ edge b (d .right) (s .right) } ∷ nodes b models (owns ++ (s .value ∷ [])) ds
+
+-- behind a model of these values: the revolutions, last to first
+abbrev pub behind : {N : Numbers} → List (N .Number) → List (Turn N) → List (Node N)
+behind models [] = []
+behind models (t ∷ ts) = let later = behind models ts in later ++ nodes (length models + length later) models [] (t .deeds)
+
+-- their adjoints: all roots one, everything else zero
+abbrev pub seeds : {N : Numbers} → List (Turn N) → List (N .Number)
+seeds [] = []
+seeds {N} (t ∷ ts) = seeds ts ++ set (replicate (length (t .deeds)) (N .nought)) (t .root) (N .one)
+
+-- the model, then the revolutions, walked once from the end to 0: what the model's adjoints are then
+abbrev pub long-tape : {N : Numbers} → Meaning N → List (N .Number)
+long-tape {N} meant =
+    let first = nodes 0 [] [] (meant .model) in
+    let m = length first in
+    let all = first ++ behind (map (λ n. n .value) first) (meant .turns) in
+    take m (walk 0 (map (λ n. n .edges) all) (replicate m (N .nought) ++ seeds (meant .turns)))
+
+-- ---- what is proved
+
+abbrev pub AtOrPast : {N : Numbers} → ℕ → List (Revolution N) → Type 0
+AtOrPast mark [] = Unit {0}
+AtOrPast mark (r ∷ rs) = (mark ≤ r .root .index) × AtOrPast mark rs
+
+-- These calls are the session's, but for reads and listings; on this machine none is refused; each root stands at or past the mark.
+-- Nothing else is asked: not of shapes, room or where children stand
+pub record Plays {N : Numbers} (s : Session N) (cs : List (Call N)) (M : Machine N) : Type 0 where
+  pub session : without-reads cs ≡ calls s
+  pub unrefused : Unrefused (run cs M .0)
+  pub roots : AtOrPast (length (s .model)) (s .revolutions)
+
+-- the model's part of the adjoint array, as the calls leave it
+abbrev pub model-adjoints : {N : Numbers} → Session N → List (Call N) → Machine N → List (N .Number)
+model-adjoints s cs M = take (length (s .model)) (after cs M .lent .adjoint)
+
+-- On any machine, with any lent arrays of any capacity: every model adjoint is that of the long tape, bit for bit. Proved in proofs/Sum.antt
+pub record Demand3 : Type 1 where
+  pub sum-over-revolutions : {N : Numbers} (s : Session N) (cs : List (Call N)) (M : Machine N) → Plays s cs M → model-adjoints s cs M ≡ long-tape (meaning s)
+
+-- ---- trading places
+
+-- does an edge of these go to node i; of these nodes
+abbrev pub to : {N : Numbers} → ℕ → List (Edge N) → Bool
+to i [] = false
+to i (e ∷ es) = eqb (e .child) i || to i es
+
+abbrev pub reach : {N : Numbers} → ℕ → List (Node N) → Bool
+reach i [] = false
+reach i (n ∷ ns) = to i (n .edges) || reach i ns
+
+-- no edge of p and no edge of q go to a common node of the model. An edge of weight zero counts, and so does one of a node that the root does not reach
+abbrev pub Apart : {N : Numbers} → List (Deed N) → Turn N → Turn N → Type 0
+Apart model p q =
+    let values = map (λ n. n .value) (nodes 0 [] [] model) in
+    let m = length values in
+    (i : ℕ) → i < m → (reach i (nodes m values [] (p .deeds)) && reach i (nodes m values [] (q .deeds))) ≡ false
+
+-- p and q, neighbours among the revolutions
+abbrev pub with-both : {N : Numbers} → List (Deed N) → List (Turn N) → Turn N → Turn N → List (Turn N) → Meaning N
+with-both model before p q later = record { model = model; turns = before ++ (p ∷ q ∷ later) }
+
+-- a session of another meaning that is not refused on this machine either
+pub record Another {N : Numbers} (M : Machine N) (meant : Meaning N) : Type 0 where
+  pub session : Session N
+  pub plays : Plays session (calls session) M
+  pub means : meaning session ≡ meant
+
+-- Proved in proofs/Trade.antt and proofs/Swap.antt
+pub record TradingPlaces : Type 1 where
+  -- two sessions, each on a machine of its own, that differ in the order of two neighbours leave the same model adjoints
+  pub same-adjoints : {N : Numbers} (s t : Session N) (cs ds : List (Call N)) (M L : Machine N) (model : List (Deed N)) (before later : List (Turn N)) (p q : Turn N) → Plays s cs M → Plays t ds L
+      → meaning s ≡ with-both model before p q later → meaning t ≡ with-both model before q p later
+      → Apart model p q → model-adjoints s cs M ≡ model-adjoints t ds L
+  -- if one order is not refused, neither is the other, with handles that stand for the same nodes
+  pub either-order : {N : Numbers} (s : Session N) (cs : List (Call N)) (M : Machine N) (model : List (Deed N)) (before later : List (Turn N)) (p q : Turn N) → Plays s cs M
+      → meaning s ≡ with-both model before p q later → Another M (with-both model before q p later)
