@@ -81,11 +81,11 @@ module _ {N : Numbers} (A : Arrays N) (i m n : ℕ) (l : i ≤ m) (h : m ≤ n) 
   sound-cut high low = rw (indexes-cut i m n l h, map-append, all-append, low) high
 
 -- x is what a call does that is not refused
-record Accepted {N : Numbers} (c : Call N) (M : Machine N) (x : Answer N × Machine N) : Type 0 where
-  passed : Passed c M
-  carries : x ≡ carried c M
+pub record Accepted {N : Numbers} (c : Call N) (M : Machine N) (x : Answer N × Machine N) : Type 0 where
+  pub passed : Passed c M
+  pub carries : x ≡ carried c M
 
-accepted : {N : Numbers} (c : Call N) (M : Machine N) → step c M .0 .number ≡ 0 → Accepted c M (step c M)
+pub accepted : {N : Numbers} (c : Call N) (M : Machine N) → step c M .0 .number ≡ 0 → Accepted c M (step c M)
 accepted c M =
     by-refusal
     (λ x. x .0 .number ≡ 0 → Accepted c M x)
