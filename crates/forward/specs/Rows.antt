@@ -1,37 +1,88 @@
--- Rows P9 to P12 of document 01's table, as statements about the definitions of `Forward`. proofs/Rows.antt proves each.
-use Prim.Native.Nat.{ℕ}
+-- Rows P9 to P12 of document 01's table: what is reckoned at which order, and what has to be seen. `EveryRow` is proved in proofs/Rows.antt, by computation.
+use Prim.Native.Nat.{ℕ, zero, suc}
 use mathlib.Core.Path.{_≡_}
+use mathlib.Core.List.{List, [], _∷_, _++_, map}
 use lib.IntN.{pos}
-use lib.Ieee.{Float, binary64, ofInt, toBits, neg}
+use lib.Ieee.{Float, binary64, ofInt, toBits}
 use Rattle.forward.specs.Forward.{Fwd, constant, variable, value, derivative, product, quotient-plain, plain-difference, nought}
+
+-- ---- what a row is
+
+-- what is reckoned, of forward numbers and plain ones
+pub data Formula : Type 0 where
+  constantly variably : Float → Formula
+  times : Formula → Formula → Formula
+  over-plain : Formula → Float → Formula
+  plain-minus : Float → Formula → Formula
+
+abbrev pub reckoned : (n : ℕ) → Formula → Fwd n
+reckoned n (constantly c) = constant n c
+reckoned n (variably v) = variable n v
+reckoned n (times f g) = product n (reckoned n f) (reckoned n g)
+reckoned n (over-plain f k) = quotient-plain n (reckoned n f) k
+reckoned n (plain-minus k f) = plain-difference n k (reckoned n f)
+
+-- every part, value parts before derivative parts
+abbrev pub parts : (n : ℕ) → Fwd n → List Float
+parts zero x = x ∷ []
+parts (suc n) (a, b) = parts n a ++ parts n b
+
+-- what is to be seen of the number: its derivatives, the value first; the bits of its value; the bits of all its parts
+pub data Sight : Type 0 where
+  derivatives : List Float → Sight
+  value-bits : ℕ → Sight
+  part-bits : List ℕ → Sight
+
+-- the derivatives from the k-th on
+abbrev pub Derivatives : (k n : ℕ) → Fwd n → List Float → Type 0
+Derivatives k n x [] = Unit {0}
+Derivatives k n x (d ∷ ds) = (derivative k n x ≡ d) × Derivatives (suc k) n x ds
+
+abbrev pub Seen : (n : ℕ) → Fwd n → Sight → Type 0
+Seen n x (derivatives ds) = Derivatives 0 n x ds
+Seen n x (value-bits k) = toBits binary64 (value n x) ≡ k
+Seen n x (part-bits ks) = map (toBits binary64) (parts n x) ≡ ks
+
+pub record Row : Type 0 where
+  pub order : ℕ
+  pub formula : Formula
+  pub sight : Sight
+
+abbrev pub Holds : Row → Type 0
+Holds r = Seen (r .order) (reckoned (r .order) (r .formula)) (r .sight)
+
+abbrev pub All : List Row → Type 0
+All [] = Unit {0}
+All (r ∷ rs) = Holds r × All rs
 
 -- the float of the whole number n
 abbrev pub float : ℕ → Float
 float n = ofInt binary64 (pos n)
 
--- P9 Fwd2 cube at 3: 27, 27, 18
-abbrev pub cube-at-3 : Fwd 2
-cube-at-3 = let x = variable 2 (float 3) in product 2 (product 2 x x) x
+-- ---- the rows
 
-abbrev pub P9 : Type 0
-P9 = (value 2 cube-at-3 ≡ float 27) × (derivative 1 2 cube-at-3 ≡ float 27) × (derivative 2 2 cube-at-3 ≡ float 18)
+-- P9 Fwd2 cube at 3: 27, 27, 18
+abbrev pub P9 : Row
+P9 = let x = variably (float 3) in record { order = 2; formula = times (times x x) x; sight = derivatives (float 27 ∷ float 27 ∷ float 18 ∷ []) }
 
 -- P10 Fwd4 fourth power at 2: 16, 32, 48, 48, 24
-abbrev pub fourth-power-at-2 : Fwd 4
-fourth-power-at-2 = let x = variable 4 (float 2) in product 4 (product 4 (product 4 x x) x) x
-
-abbrev pub P10 : Type 0
-P10 =
-    (value 4 fourth-power-at-2 ≡ float 16)
-    × (derivative 1 4 fourth-power-at-2 ≡ float 32)
-    × (derivative 2 4 fourth-power-at-2 ≡ float 48)
-    × (derivative 3 4 fourth-power-at-2 ≡ float 48)
-    × (derivative 4 4 fourth-power-at-2 ≡ float 24)
+abbrev pub P10 : Row
+P10 = let x = variably (float 2) in record { order = 4; formula = times (times (times x x) x) x; sight = derivatives (float 16 ∷ float 32 ∷ float 48 ∷ float 48 ∷ float 24 ∷ []) }
 
 -- P11 Fwd1 constant 49 over plain 49: value bits 3fefffffffffffff
-abbrev pub P11 : Type 0
-P11 = toBits binary64 (value 1 (quotient-plain 1 (constant 1 (float 49)) (float 49))) ≡ 0x3fef_ffff_ffff_ffff
+abbrev pub P11 : Row
+P11 = record { order = 1; formula = over-plain (constantly (float 49)) (float 49); sight = value-bits 0x3fef_ffff_ffff_ffff }
 
 -- P12 plain 3 minus Fwd2 constant 0: parts ((3, +0), (-0, -0))
-abbrev pub P12 : Type 0
-P12 = _≡_ {A = Fwd 2} (plain-difference 2 (float 3) (constant 2 nought)) ((float 3, nought), (neg nought, neg nought))
+abbrev pub P12 : Row
+P12 = record {
+  order = 2;
+  formula = plain-minus (float 3) (constantly nought);
+  sight = part-bits (0x4008_0000_0000_0000 ∷ 0 ∷ 0x8000_0000_0000_0000 ∷ 0x8000_0000_0000_0000 ∷ []);
+}
+
+abbrev pub rows : List Row
+rows = P9 ∷ P10 ∷ P11 ∷ P12 ∷ []
+
+abbrev pub EveryRow : Type 0
+EveryRow = All rows

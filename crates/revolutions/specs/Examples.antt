@@ -1,0 +1,85 @@
+-- What demand 3 says of one session of three revolutions, in bits, and what would not meet it. Proved in proofs/Examples.antt, by computation.
+-- The revolutions pass 3, 2^53 and -2^53 back to one node of the model, so that the order of the three sums shows: (0 + 3) + 2^53 is 2^53 + 4 in floats, and less 2^53 it is 4.
+use Prim.Native.Nat.{ℕ, _+_, _^_}
+use mathlib.Core.Path.{_≡_}
+use mathlib.Core.List.{List, [], _∷_, _++_, reverse}
+use lib.Ieee.{Float, neg}
+use lib.ListN.{take, drop, replicate}
+use Rattle.tape.specs.Numbers.{floats}
+use Rattle.tape.specs.Machine.{Machine}
+use Rattle.tape.specs.Handles.{Operand, plain, node}
+use Rattle.tape.specs.Calls.{Call, adjoint-of, value-of, list}
+use Rattle.tape.specs.Kept.{fresh}
+use Rattle.tape.specs.Rows.{float, sevens, handle, given, node-at}
+use Rattle.revolutions.specs.Revolutions.{Operation, Revolution, Session, Meaning, turn, meaning, calls, long-tape, Plays, model-adjoints, Apart}
+
+-- ---- the session
+
+abbrev pub operation : ℕ → Operand floats → Operand floats → Operation floats
+operation op left right = record { number = op; left = left; right = right; supplied = given (float 0) (float 0) (float 0) }
+
+-- x = 3, and x * x
+abbrev pub model : List (Operation floats)
+model = operation 0 (plain (float 3)) (plain (float 0)) ∷ operation 3 (node-at 0) (node-at 0) ∷ []
+
+-- on node i of the model: a value with supplied partial w, plus 1, which is the root. The serials of its two nodes are k and k + 1
+abbrev pub revolution : ℕ → Float → ℕ → Revolution floats
+revolution i w k = record {
+  operations = record { number = 8; left = node-at i; right = plain (float 0); supplied = given (float 5) w w } ∷ operation 1 (node (handle 2 k)) (plain (float 1)) ∷ [];
+  root = handle 3 (k + 1);
+}
+
+abbrev pub high : Float
+high = float (2 ^ 53)
+
+abbrev pub three : Session floats
+three = record { model = model; revolutions = revolution 1 (float 3) 3 ∷ revolution 1 high 5 ∷ revolution 1 (neg high) 7 ∷ [] }
+
+-- with reads between: x * x's adjoint after the first revolution, and at the end a listing
+abbrev pub three-calls : List (Call floats)
+three-calls = take 9 (calls three) ++ (adjoint-of (node-at 1) ∷ drop 9 (calls three)) ++ (value-of (node-at 1) ∷ list 1000 ∷ [])
+
+-- four nodes' room, all sevens
+abbrev pub before : Machine floats
+before = fresh (sevens 4)
+
+-- the last two revolutions in the other order
+abbrev pub swapped : Session floats
+swapped = record { model = model; revolutions = revolution 1 (float 3) 3 ∷ revolution 1 (neg high) 5 ∷ revolution 1 high 7 ∷ [] }
+
+-- ---- rules that are not the long tape's
+
+abbrev pub first-only : Meaning floats → List Float
+first-only meant = long-tape (record { model = meant .model; turns = take 1 (meant .turns) })
+
+-- the revolutions in the order in which they were recorded
+abbrev pub in-recording-order : Meaning floats → List Float
+in-recording-order meant = long-tape (record { model = meant .model; turns = reverse (meant .turns) })
+
+-- adjoints that no walk changes
+abbrev pub idle : Meaning floats → List Float
+idle meant = replicate 2 (float 0)
+
+-- ---- what is proved
+
+-- the session's model adjoints are what a rule gives
+abbrev pub Meets : (Meaning floats → List Float) → Type 0
+Meets rule = model-adjoints three three-calls before ≡ rule (meaning three)
+
+pub record Example : Type 0 where
+  pub plays : Plays three three-calls before
+  pub adjoints : model-adjoints three three-calls before ≡ float 24 ∷ float 4 ∷ []
+  pub long : long-tape (meaning three) ≡ float 24 ∷ float 4 ∷ []
+  -- these rules are not met
+  pub not-first-only : Meets first-only → ⊥
+  pub not-in-recording-order : Meets in-recording-order → ⊥
+  pub not-idle : Meets idle → ⊥
+
+-- neighbours that share a node of the model: to trade their places changes bits
+pub record Overlapping : Type 0 where
+  pub plays : Plays swapped (calls swapped) before
+  pub adjoints : model-adjoints swapped (calls swapped) before ≡ float 18 ∷ float 3 ∷ []
+
+-- neighbours that share none: one passes back to x, the other to x * x
+abbrev pub ApartHere : Type 0
+ApartHere = Apart (meaning three .model) (turn 2 (revolution 0 (float 3) 3)) (turn 2 (revolution 1 high 5))
