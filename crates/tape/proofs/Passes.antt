@@ -146,7 +146,7 @@ ends propagate-to-mark M f all-live = omega arith
 ends propagate-mark-to-start M f all-live = omega arith
 
 module _ {N : Numbers} (M : Machine N) (nodes : SoundNodes M) where
-  range-sound : (c : Call N) → fits (asked c (M .state) .arrays) M ≡ true → any-stale M (handles (asked c (M .state) .operands)) ≡ false → all (map (sound (M .lent)) (asked c (M .state) .range)) ≡ true
+  pub range-sound : (c : Call N) → fits (asked c (M .state) .arrays) M ≡ true → any-stale M (handles (asked c (M .state) .operands)) ≡ false → all (map (sound (M .lent)) (asked c (M .state) .range)) ≡ true
   range-sound (pass p) shape all-live =
       let P = plan p (M .state) in
       let end : P .end ≤ M .state .length = ends p M (fit M shape) all-live in
@@ -163,7 +163,7 @@ module _ {N : Numbers} (M : Machine N) (nodes : SoundNodes M) where
   not-hit c (there shape (there _ (there all-live (there _ (there _ (there _ (here unsound))))))) = true≢false (sym (range-sound c (not-false _ shape) all-live) ∙ not-true _ unsound)
   not-hit c (there _ (there _ (there _ (there _ (there _ (there _ (there _ (there _ h)))))))) = elim h [ ]
 
-carried-number : {N : Numbers} (c : Call N) (M : Machine N) → carried c M .0 .number ≡ 0
+pub carried-number : {N : Numbers} (c : Call N) (M : Machine N) → carried c M .0 .number ≡ 0
 carried-number {N} (operate op left right g) M = by-test (λ (x : Answer N × Machine N). x .0 .number ≡ 0) (M .state .active) (λ _. refl) (λ _. refl)
 carried-number (move m) M = refl
 carried-number clear M = refl
