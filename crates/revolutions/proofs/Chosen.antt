@@ -55,6 +55,7 @@ nothing-read s = rw (recordings-read-nothing (s .model), turns-read-nothing (s .
 
 -- ---- its meaning
 
+-- what stands before a deed is meant again, and so is everything that is made of it
 module _ {N : Numbers} (m first : ℕ) where
   operand-means : (k j : ℕ) (x : Meant N) → Placed m j x → meant m (operand m first k x) ≡ x
   operand-means k j (in-model i) h = rw (lt-ltb i m h)
@@ -78,6 +79,7 @@ module _ {N : Numbers} (m first : ℕ) where
       let root : m + t .root - m ≡ t .root = omega arith in
       λ i. record { deeds = deeds i; root = root i } ∷ revolutions-mean n (k + length (t .deeds)) ts ps i
 
+  -- each root stands at or past the mark
   roots-past : (k : ℕ) (ts : List (Turn N)) → AtOrPast m (revolutions m first k ts)
   roots-past k [] = tt
   roots-past k (t ∷ ts) = (omega arith, roots-past (k + length (t .deeds)) ts)

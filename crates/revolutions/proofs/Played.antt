@@ -6,12 +6,12 @@ use mathlib.Core.Path.{_≡_, refl, ap}
 use mathlib.Core.Bool.{Bool, true, false, not, cond}
 use mathlib.Core.List.{List, [], _∷_, _++_, map, append-assoc}
 use borrow.Author.Tests.{ne-eqb}
-use lib.ListN.{length, length-map}
+use lib.ListN.{length, getD, length-map}
 use Rattle.tape.specs.Numbers.{Numbers}
 use Rattle.tape.specs.Machine.{Arrays, Machine, machine, capacity, fits}
 use Rattle.tape.specs.Handles.{Operand, live, handles, any-plain}
 use Rattle.tape.specs.Operations.{known, one-sided}
-use Rattle.tape.specs.Calls.{Call, Move, move, start, set-mark, rewind-to-mark, operate, clear, Pass, pass, backward-to-mark, propagate-mark-to-start, moved, plan, any-stale, last-serial, step, run}
+use Rattle.tape.specs.Calls.{Call, Move, move, start, set-mark, rewind-to-mark, operate, clear, Pass, pass, backward-to-mark, propagate-mark-to-start, plan, any-stale, last-serial, step, run}
 use Rattle.tape.specs.Kept.{after}
 use Rattle.tape.specs.Passes.{Unrefused}
 use Rattle.tape.specs.declared.state.Tape.{Tape}
@@ -32,37 +32,47 @@ passes : {N : Numbers} (c : Call N) (L : Machine N) → Passed c L → Accepted 
 unfolding step
 passes c L p = record { passed = p; carries = rw (p .shape, p .known, p .all-live, p .standing, p .room, p .serial, p .sound-range, p .short) }
 
-answers : {N : Numbers} (c : Call N) (L : Machine N) → Accepted c L (step c L) → step c L .0 .number ≡ 0
-answers c L a = rw (a .carries) (carried-number c L)
+-- and answers with number 0
+answers : {N : Numbers} {c : Call N} {L : Machine N} → Accepted c L (step c L) → step c L .0 .number ≡ 0
+answers {c = c} {L} a = rw (a .carries) (carried-number c L)
 
-module _ {N : Numbers} {A : Arrays N} {m first k j : ℕ} {L : Machine N} (t : Tape) (f : Fit (machine t A)) (s : Stands A m first k j L) where
-  lent-fits : fits true L ≡ true
-  lent-fits = let g = stands-fit s t f in refits L (L .state) g (g .state)
+-- a move tests the state alone
+moves-so : {N : Numbers} (c : Move) (L : Machine N) → fits false L ≡ true → Accepted (move c) L (step (move c) L)
+moves-so c L shape = passes (move c) L (record { shape = shape; known = refl; all-live = refl; standing = refl; room = refl; serial = refl; sound-range = refl; short = refl })
 
-  state-fits : fits false L ≡ true
-  state-fits = let g = stands-fit s t f in state-fit-so 65535 (L .state) (omega arith)
-
-  own-lives : (i : ℕ) → i < j → live L (record { index = m + i; serial = k + i }) ≡ true
-  own-lives i h = lives-so _ (L .lent .serial) _ (record { below = omega arith; serial = λ e. omega arith; same = s .owns i h })
-
-  operand-lives : (x : Meant N) (os : List (Operand N)) → Placed m j x → any-stale L (handles os) ≡ false → any-stale L (handles (operand m first k x ∷ os)) ≡ false
-  operand-lives (in-model i) os h e = rw (lives-so (L .state .length) (L .lent .serial) (record { index = i; serial = first + i }) (record { below = omega arith; serial = λ e. omega arith; same = s .models i h })) e
-  operand-lives (own i) os h e = rw (own-lives i h) e
-  operand-lives (number x) os h e = e
-
-  both-live : (alone : Bool) (x y : Meant N) → Placed m j x → Placed m j y → any-stale L (handles (cond alone (operand m first k x ∷ []) (operand m first k x ∷ operand m first k y ∷ []))) ≡ false
-  both-live true x y p q = operand-lives x [] p refl
-  both-live false x y p q = operand-lives x (operand m first k y ∷ []) p (operand-lives y [] q refl)
-
+module _ {N : Numbers} {A : Arrays N} {m first k j : ℕ} {L : Machine N} {t : Tape} (f : Fit (machine t A)) (s : Stands A m first k j L) where
+  -- on such a machine no move is refused
   moves : (c : Move) → Accepted (move c) L (step (move c) L)
-  moves c = passes (move c) L (record { shape = state-fits; known = refl; all-live = refl; standing = refl; room = refl; serial = refl; sound-range = refl; short = refl })
+  moves c = let g = stands-fit s f in moves-so c L (state-fit-so 65535 (L .state) (omega arith))
+
+  -- a call that is lent the arrays is not refused for its shape
+  lent-fits : fits true L ≡ true
+  lent-fits = let g = stands-fit s f in refits L (L .state) g (g .state)
 
   clears : Accepted clear L (step clear L)
   clears = passes clear L (record { shape = lent-fits; known = refl; all-live = refl; standing = refl; room = refl; serial = refl; sound-range = refl; short = refl })
 
   walks : (p : Pass N) → any-stale L (handles (plan p (L .state) .root)) ≡ false → any-plain (plan p (L .state) .root) ≡ false → Accepted (pass p) L (step (pass p) L)
-  walks p e standing = passes (pass p) L (record { shape = lent-fits; known = refl; all-live = e; standing = standing; room = refl; serial = refl; sound-range = range-sound L (s .sound) (pass p) lent-fits e; short = refl })
+  walks p root standing =
+      passes (pass p) L
+      (record { shape = lent-fits; known = refl; all-live = root; standing = standing; room = refl; serial = refl; sound-range = range-sound L (s .sound) (pass p) lent-fits root; short = refl })
 
+  -- a handle with the serial that is stored at its index
+  alive : (i n : ℕ) → i < m + j → 0 < n → getD (L .lent .serial) i 0 ≡ n → live L (record { index = i; serial = n }) ≡ true
+  alive i n below issued same = lives-so _ (L .lent .serial) _ (record { below = omega arith; serial = λ e. omega arith; same = same })
+
+  -- the handles that were chosen for operands that stand before a deed are live
+  operand-lives : (x : Meant N) (os : List (Operand N)) → Placed m j x → any-stale L (handles os) ≡ false → any-stale L (handles (operand m first k x ∷ os)) ≡ false
+  operand-lives (in-model i) os h e = rw (alive i (first + i) (omega arith) (omega arith) (s .models i h)) e
+  operand-lives (own i) os h e = rw (alive (m + i) (k + i) (omega arith) (omega arith) (s .owns i h)) e
+  operand-lives (number x) os h e = e
+
+  -- and so are those of the operands that a deed uses
+  both-live : (alone : Bool) (x y : Meant N) → Placed m j x → Placed m j y → any-stale L (handles (cond alone (operand m first k x ∷ []) (operand m first k x ∷ operand m first k y ∷ []))) ≡ false
+  both-live true x y p q = operand-lives x [] p refl
+  both-live false x y p q = operand-lives x (operand m first k y ∷ []) p (operand-lives y [] q refl)
+
+  -- a deed that is proper is recorded where there is room and a serial
   operates : (d : Deed N) → Proper m j d → m + j < capacity A → (k + j ≡ last-serial → ⊥)
       → let c = operate (d .operation) (operand m first k (d .left)) (operand m first k (d .right)) (d .supplied) in Accepted c L (step c L)
   operates d p room spared =
@@ -82,43 +92,53 @@ module _ {N : Numbers} {A : Arrays N} {m first k j : ℕ} {L : Machine N} (t : T
 
 -- ---- operations one after another, and revolutions
 
-module _ {N : Numbers} {A : Arrays N} (t : Tape) (f : Fit (machine t A)) (m first : ℕ) where
-  records : (k j : ℕ) (ds : List (Deed N)) (L : Machine N) → Stands A m first k j L → AllProper m j ds → m + j + length ds ≤ capacity A → Spared (k + j) (length ds) → Unrefused (run (recordings (map (operation m first k) ds)) L .0)
-  records k j [] L s p room spared = tt
-  records k j (d ∷ ds) L s (p, ps) room spared =
-      let a = operates t f s d p (omega arith) (λ e. omega (arith, spared (omega arith))) in
-      (answers _ L a, records k (suc j) ds _ (recorded s _ _ _ _ a) ps (omega arith) (λ h. omega (arith, spared (omega arith))))
+module _ {N : Numbers} {A : Arrays N} {t : Tape} (f : Fit (machine t A)) (m first : ℕ) where
+  -- deeds from place j on
+  operations-play : (k j : ℕ) (ds : List (Deed N)) (L : Machine N) → Stands A m first k j L → AllProper m j ds → m + j + length ds ≤ capacity A → Spared (k + j) (length ds)
+      → Unrefused (run (recordings (map (operation m first k) ds)) L .0)
+  operations-play k j [] L s p room spared = tt
+  operations-play k j (d ∷ ds) L s (p, ps) room spared =
+      let a = operates f s d p (omega arith) (λ e. omega (arith, spared (omega arith))) in
+      (answers a, operations-play k (suc j) ds _ (recorded s _ _ _ _ a) ps (omega arith) (λ h. omega (arith, spared (omega arith))))
 
   -- from the first place on, and where that leads
-  all-recorded : (k : ℕ) (ds : List (Deed N)) (L : Machine N) → let cs = recordings (map (operation m first k) ds) in
+  all-played : (k : ℕ) (ds : List (Deed N)) (L : Machine N) → let cs = recordings (map (operation m first k) ds) in
       Stands A m first k 0 L → AllProper m 0 ds → m + length ds ≤ capacity A → Spared k (length ds) → Unrefused (run cs L .0) × Stands A m first k (length ds) (after cs L)
-  all-recorded k ds L s p room spared =
-      let unrefused = records k 0 ds L s p (omega arith) (λ h. omega (arith, spared (omega arith))) in
+  all-played k ds L s p room spared =
+      let unrefused = operations-play k 0 ds L s p (omega arith) (λ h. omega (arith, spared (omega arith))) in
       (unrefused, rw (zero-add, length-map) at (told (map (operation m first k) ds) 0 L s unrefused .stands))
 
-  turns : (k : ℕ) (ts : List (Turn N)) (L : Machine N) → Stands A m first k 0 L → AllTurns (capacity A) m ts → Spared k (recorded-by ts) → Unrefused (run (turned (revolutions m first k ts) ++ (pass propagate-mark-to-start ∷ [])) L .0)
-  turns k [] L s p spared = (answers _ L (walks t f s propagate-mark-to-start refl refl), tt)
-  turns k (u ∷ ts) L s (p, ps) spared =
-      let (unrefused, s₁) = all-recorded k (u .deeds) L s (p .deeds) (p .room) (λ h. omega (arith, spared h)) in
-      let a = walks t f s₁ (backward-to-mark (operand m first k (own (u .root)))) (operand-lives t f s₁ (own (u .root)) [] (p .root) refl) refl in
+  -- revolutions, and the last pass
+  revolutions-play : (k : ℕ) (ts : List (Turn N)) (L : Machine N) → Stands A m first k 0 L → AllTurns (capacity A) m ts → Spared k (recorded-by ts)
+      → Unrefused (run (turned (revolutions m first k ts) ++ (pass propagate-mark-to-start ∷ [])) L .0)
+  revolutions-play k [] L s p spared = (answers (walks f s propagate-mark-to-start refl refl), tt)
+  revolutions-play k (u ∷ ts) L s (p, ps) spared =
+      let (unrefused, s₁) = all-played k (u .deeds) L s (p .deeds) (p .room) (λ h. omega (arith, spared h)) in
+      let a = walks f s₁ (backward-to-mark (operand m first k (own (u .root)))) (operand-lives f s₁ (own (u .root)) [] (p .root) refl) refl in
       let s₂ = walked s₁ _ a in
-      let b = moves t f s₂ rewind-to-mark in
-      rw
-      append-assoc
-      (unrefused-append (recordings (map (operation m first k) (u .deeds))) _ L unrefused (answers _ _ a, (answers _ _ b, turns (k + length (u .deeds)) ts _ (rewound s₂ b) ps (λ h. omega (arith, spared (omega arith))))))
+      let b = moves f s₂ rewind-to-mark in
+      let rest = revolutions-play (k + length (u .deeds)) ts _ (rewound s₂ b) ps (λ h. omega (arith, spared (omega arith))) in
+      rw append-assoc (unrefused-append (recordings (map (operation m first k) (u .deeds))) _ L unrefused (answers a, (answers b, rest)))
 
 -- ---- the session
 
-plays : {N : Numbers} (M : Machine N) (meant : Meaning N) → Fitting M meant → Unrefused (run (calls (session M meant)) M .0)
-plays M meant f =
-    let k = M .state .next in
-    let start-passes = passes (move start) M (record { shape = f .state; known = refl; all-live = refl; standing = refl; room = refl; serial = refl; sound-range = refl; short = refl }) in
-    let T = moved start (M .state) in
-    let (unrefused, s₁) = all-recorded T (f .arrays) 0 k k (meant .model) (step (move start) M .1) (started M start-passes) (f .model) (omega arith) (λ h. omega (arith, f .serials h)) in
-    let a = moves T (f .arrays) s₁ set-mark in
-    let s₂ = marked s₁ a in
-    let b = clears T (f .arrays) s₂ in
-    (answers _ M start-passes, unrefused-append (recordings (map (operation 0 k k) (meant .model))) _ _ unrefused (answers _ _ a, (answers _ _ b, turns T (f .arrays) (length (meant .model)) k (k + length (meant .model)) (meant .turns) _ (cleared s₂ b) (f .turns) (λ h. omega (arith, f .serials (omega arith))))))
+module _ {N : Numbers} (M : Machine N) (meant : Meaning N) (f : Fitting M meant) where
+  session-plays : Unrefused (run (calls (session M meant)) M .0)
+  session-plays =
+      let k = M .state .next in
+      let m = length (meant .model) in
+      let a = moves-so start M (f .state) in
+      let (unrefused, s₁) = all-played (f .arrays) 0 k k (meant .model) _ (started M a) (f .model) (omega arith) (λ h. omega (arith, f .serials h)) in
+      let b = moves (f .arrays) s₁ set-mark in
+      let s₂ = marked s₁ b in
+      let c = clears (f .arrays) s₂ in
+      let rest = revolutions-play (f .arrays) m k (k + m) (meant .turns) _ (cleared s₂ c) (f .turns) (λ h. omega (arith, f .serials (omega arith))) in
+      (answers a, unrefused-append (recordings (map (operation 0 k k) (meant .model))) _ _ unrefused (answers b, (answers c, rest)))
 
-pub another : {N : Numbers} (M : Machine N) (meant : Meaning N) → Fitting M meant → Another M meant
-another M meant f = record { session = session M meant; plays = record { session = nothing-read (session M meant); unrefused = plays M meant f; roots = roots M meant }; means = means M meant f }
+  pub another : Another M meant
+  another =
+      record {
+        session = session M meant;
+        plays = record { session = nothing-read (session M meant); unrefused = session-plays; roots = roots M meant };
+        means = means M meant f;
+      }

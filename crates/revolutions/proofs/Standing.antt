@@ -1,6 +1,6 @@
 -- Where a machine stands in a session: behind how many nodes, with which serials, and what each call does to that.
 use Prim.Native.Nat.{ℕ, suc, _+_, _≤_, _<_}
-use native.Mathlib.Nat.{add-zero, zero-add}
+use native.Mathlib.Nat.{zero-add}
 use native.Mathlib.Omega.{arith}
 use mathlib.Core.Path.{_≡_, refl, sym, _∙_}
 use mathlib.Core.Bool.{true, true≢false}
@@ -32,7 +32,7 @@ pub record Alike {N : Numbers} (A B : Arrays N) : Type 0 where
   pub child : length (B .child) ≡ length (A .child)
   pub partial : length (B .partial) ≡ length (A .partial)
 
--- a walk, and the root set to one, leave the number of adjoints
+-- a walk leaves the number of adjoints, and so does the root's being set to one
 length-push : {N : Numbers} (a : N .Number) (es : List (Edge N)) (s : List (N .Number)) → length (push a es s) ≡ length s
 length-push a [] s = refl
 length-push a (e ∷ es) s = length-push a es _ ∙ length-set s _ _
@@ -62,73 +62,49 @@ written-alike L v es =
       partial = length-sets (L .lent .partial) (slot n) (map (λ e. e .weight) es);
     }
 
--- clearing does too, up to the length
+-- zeros put in the place of the first n
 length-cleared : {A : Type 0} (n : ℕ) (x : A) (s : List A) → n ≤ length s → length (replicate n x ++ drop n s) ≡ length s
 length-cleared n x s h = simp (length-append, length-replicate, length-drop) (omega arith)
 
 -- ---- a machine in a session
 
--- On the lent arrays A: behind a model of m nodes, whose serials are first, first + 1 and so on, stand j own nodes, whose serials are k, k + 1 and so on.
+-- On the lent arrays A: behind a model of m nodes, with serials from first on, stand j own nodes, with serials from k on.
 -- While the model is recorded, its nodes are own nodes behind no model
-pub record Stands {N : Numbers} (A : Arrays N) (m first k j : ℕ) (L : Machine N) : Type 0 where
+pub record Counted {N : Numbers} (A : Arrays N) (m first k j : ℕ) (L : Machine N) : Type 0 where
   pub alike : Alike A (L .lent)
   pub room : m + j ≤ capacity A
-  pub active : L .state .active ≡ true
   pub nodes : L .state .length ≡ m + j
   pub mark : L .state .mark ≡ m
   pub next : L .state .next ≡ k + j
   pub not-nought : 0 < first
   pub in-order : first ≤ k
+
+-- these serials are stored there, and every node is sound
+pub record Stands {N : Numbers} (A : Arrays N) (m first k j : ℕ) (L : Machine N) : Type 0 where
+  pub counted : Counted A m first k j L
+  pub active : L .state .active ≡ true
   pub models : (i : ℕ) → i < m → getD (L .lent .serial) i 0 ≡ first + i
   pub owns : (i : ℕ) → i < j → getD (L .lent .serial) (m + i) 0 ≡ k + i
   pub sound : SoundNodes L
 
--- what holds of the machine that an accepted call leaves
+-- what holds of the machine that an accepted call leaves; its nodes are still sound
 onward : {N : Numbers} (P : Machine N → Type 0) (c : Call N) (L : Machine N) → Accepted c L (step c L) → SoundNodes L → (SoundNodes (carried c L .1) → P (carried c L .1)) → P (step c L .1)
 onward P c L a is so = rw (a .carries) (so (rw (a .carries) at (sound-kept L (step c L) (effect c L) is)))
 
--- a start
+-- a start leaves no node
 pub started : {N : Numbers} (M : Machine N) → Accepted (move start) M (step (move start) M) → Stands (M .lent) 0 (M .state .next) (M .state .next) 0 (step (move start) M .1)
 started M a =
     let f = state-fit 65535 (M .state) (a .passed .shape) in
-    rw
-    (a .carries)
-    (record {
-      alike = record { value = refl; adjoint = refl; serial = refl; count = refl; child = refl; partial = refl };
-      room = omega arith;
-      active = refl;
-      nodes = refl;
-      mark = refl;
-      next = sym (add-zero _);
-      not-nought = omega arith;
-      in-order = omega arith;
-      models = λ i h. absurd (omega arith);
-      owns = λ i h. absurd (omega arith);
-      sound = λ i h. absurd (omega arith);
-    })
+    rw (a .carries) (record { counted = omega arith; active = refl; models = λ i h. absurd (omega arith); owns = λ i h. absurd (omega arith); sound = λ i h. absurd (omega arith) })
 
 module _ {N : Numbers} {A : Arrays N} {m first k j : ℕ} {L : Machine N} (s : Stands A m first k j L) where
   -- its shape is right where that of a machine on the arrays A is
-  pub stands-fit : (t : Tape) → Fit (machine t A) → Fit L
-  stands-fit t f = omega arith
+  pub stands-fit : {t : Tape} → Fit (machine t A) → Fit L
+  stands-fit f = omega arith
 
   -- with other adjoints, as many of them
   re-adjoined : (a : List (N .Number)) → length a ≡ length (L .lent .adjoint) → SoundNodes (with-adjoints L a) → Stands A m first k j (with-adjoints L a)
-  re-adjoined a e is =
-      let l = s .alike in
-      record {
-        alike = record { value = l .value; adjoint = e ∙ l .adjoint; serial = l .serial; count = l .count; child = l .child; partial = l .partial };
-        room = s .room;
-        active = s .active;
-        nodes = s .nodes;
-        mark = s .mark;
-        next = s .next;
-        not-nought = s .not-nought;
-        in-order = s .in-order;
-        models = s .models;
-        owns = s .owns;
-        sound = is;
-      }
+  re-adjoined a e is = record { counted = omega arith; active = s .active; models = s .models; owns = s .owns; sound = is }
 
   pub cleared : Accepted clear L (step clear L) → Stands A m first k j (step clear L .1)
   cleared a =
@@ -138,74 +114,38 @@ module _ {N : Numbers} {A : Arrays N} {m first k j : ℕ} {L : Machine N} (s : S
   pub walked : (p : Pass N) → Accepted (pass p) L (step (pass p) L) → Stands A m first k j (step (pass p) L .1)
   walked p a = onward (Stands A m first k j) (pass p) L a (s .sound) (re-adjoined _ (length-walked (plan p (L .state)) L))
 
-  -- one node more
-  grown : (v : N .Number) (es : List (Edge N)) → m + j < capacity A → length (L .lent .serial) ≡ capacity A → SoundNodes (written L v es) → Stands A m first k (suc j) (written L v es)
-  grown v es h fits is =
+  -- with one node more
+  grown : (v : N .Number) (es : List (Edge N)) → m + j < length (L .lent .serial) → m + j < capacity A → SoundNodes (written L v es) → Stands A m first k (suc j) (written L v es)
+  grown v es h room is =
       let w = written-alike L v es in
-      let old : (i : ℕ) → i < m + j → getD (written L v es .lent .serial) i 0 ≡ getD (L .lent .serial) i 0 = λ i b. getD-set-other (L .lent .serial) _ i _ 0 (λ e. omega arith) in
+      let serials = written L v es .lent .serial in
+      let old : (i : ℕ) → i < m + j → getD serials i 0 ≡ getD (L .lent .serial) i 0 = λ i b. getD-set-other (L .lent .serial) _ i _ 0 (λ e. omega arith) in
+      let new : getD serials (m + j) 0 ≡ k + j = rw (← s .counted .nodes, ← s .counted .next) (getD-set-same (L .lent .serial) _ _ 0 (omega arith)) in
       record {
-        alike = omega arith;
-        room = omega arith;
+        counted = omega arith;
         active = s .active;
-        nodes = omega arith;
-        mark = s .mark;
-        next = omega arith;
-        not-nought = s .not-nought;
-        in-order = s .in-order;
         models = λ i b. old i (omega arith) ∙ s .models i b;
-        owns = λ i b. last-or-below (λ i. getD (written L v es .lent .serial) (m + i) 0 ≡ k + i) j (rw (← s .nodes, ← s .next) (getD-set-same (L .lent .serial) _ _ 0 (omega arith))) (λ i b. old (m + i) (omega arith) ∙ s .owns i b) i (omega arith);
+        owns = λ i b. last-or-below (λ i. getD serials (m + i) 0 ≡ k + i) j new (λ i b. old (m + i) (omega arith) ∙ s .owns i b) i (omega arith);
         sound = is;
       }
 
   pub recorded : (op : ℕ) (left right : Operand N) (g : Given N) → let c = operate op left right g in Accepted c L (step c L) → Stands A m first k (suc j) (step c L .1)
   recorded op left right g a =
       let f : Fit L = fit L (a .passed .shape) in
-      let full : L .state .length ≡ capacity (L .lent) → ⊥ = eqb-false _ _ (rw (s .active) at (a .passed .room)) in
+      let not-full : L .state .length ≡ capacity (L .lent) → ⊥ = eqb-false _ _ (rw (s .active) at (a .passed .room)) in
       let row = apply op (worth L left) (worth L right) g in
       let At : Answer N × Machine N → Type 0 = λ x. SoundNodes (x .1) → Stands A m first k (suc j) (x .1) in
-      onward (Stands A m first k (suc j)) (operate op left right g) L a (s .sound) (by-test At (L .state .active) (λ _. grown (row .value) (edges left right row) (omega arith) (omega arith)) (λ e. absurd (true≢false (sym (s .active) ∙ e))))
+      onward (Stands A m first k (suc j)) (operate op left right g) L a (s .sound)
+      (by-test At (L .state .active) (λ _. grown (row .value) (edges left right row) (omega arith) (omega arith)) (λ e. absurd (true≢false (sym (s .active) ∙ e))))
 
+  -- the own nodes are gone, and the next ones get the serials after theirs
   pub rewound : Accepted (move rewind-to-mark) L (step (move rewind-to-mark) L) → Stands A m first (k + j) 0 (step (move rewind-to-mark) L .1)
   rewound a =
-      onward
-      (Stands A m first (k + j) 0)
-      (move rewind-to-mark)
-      L
-      a
-      (s .sound)
-      (λ is. record {
-        alike = s .alike;
-        room = omega arith;
-        active = s .active;
-        nodes = omega arith;
-        mark = s .mark;
-        next = omega arith;
-        not-nought = s .not-nought;
-        in-order = omega arith;
-        models = s .models;
-        owns = λ i h. absurd (omega arith);
-        sound = is;
-      })
+      onward (Stands A m first (k + j) 0) (move rewind-to-mark) L a (s .sound)
+      (λ is. record { counted = omega arith; active = s .active; models = s .models; owns = λ i h. absurd (omega arith); sound = is })
 
--- the model is recorded, and the mark set behind it
+-- the model's own nodes, with the mark set behind them, are the model
 pub marked : {N : Numbers} {A : Arrays N} {k j : ℕ} {L : Machine N} → Stands A 0 k k j L → Accepted (move set-mark) L (step (move set-mark) L) → Stands A j k (k + j) 0 (step (move set-mark) L .1)
 marked {A = A} {k} {j} {L} s a =
-    onward
-    (Stands A j k (k + j) 0)
-    (move set-mark)
-    L
-    a
-    (s .sound)
-    (λ is. record {
-      alike = s .alike;
-      room = omega arith;
-      active = s .active;
-      nodes = omega arith;
-      mark = omega arith;
-      next = omega arith;
-      not-nought = s .not-nought;
-      in-order = omega arith;
-      models = λ i h. rw zero-add at (s .owns i h);
-      owns = λ i h. absurd (omega arith);
-      sound = is;
-    })
+    onward (Stands A j k (k + j) 0) (move set-mark) L a (s .sound)
+    (λ is. record { counted = omega arith; active = s .active; models = λ i h. rw zero-add at (s .owns i h); owns = λ i h. absurd (omega arith); sound = is })

@@ -26,26 +26,31 @@ use Rattle.revolutions.proofs.Standing.{Stands, started, recorded, mark
 
 -- ---- one operation
 
+-- a branch taken twice is taken once
 twice : {A : Type 0} (b : Bool) (x y : A) → cond b x (cond b x y) ≡ cond b x y
 twice true x y = refl
 twice false x y = refl
 
--- the first of some operands that are not stale
+-- of handles none of which is stale the first is live
 first-live : {N : Numbers} (L : Machine N) (h : Handle) (hs : List Handle) → any-stale L (h ∷ hs) ≡ false → Lives (L .state .length) (L .lent .serial) h
 first-live L h hs e = lives-told _ _ h (not-false (live L h) (or-false (not (live L h)) _ e .0))
 
+-- behind a model of m nodes, with j own nodes
 module _ {N : Numbers} (L : Machine N) (m j : ℕ) (nodes : L .state .length ≡ m + j) where
+  -- a live handle's node stands before the one to be recorded
   placed : (o : Operand N) (os : List (Operand N)) → any-stale L (handles (o ∷ os)) ≡ false → Placed m j (meant m o) × (any-stale L (handles os) ≡ false)
   placed (plain x) os e = (tt, e)
   placed (node h) os e =
       let l = first-live L h (handles os) e in
       (by-test (Placed m j) (ltb (h .index) m) (ltb-true _ _) (λ t. omega (arith, ltb-false (h .index) m t)), or-false (not (live L h)) _ e .1)
 
+  -- and so do those of the operands that an operation uses
   both-placed : (alone : Bool) (left right : Operand N) → any-stale L (handles (cond alone (left ∷ []) (left ∷ right ∷ []))) ≡ false
       → Placed m j (meant m left) × Placed m j (cond alone (number (N .nought)) (meant m right))
   both-placed true left right e = (placed left [] e .0, tt)
   both-placed false left right e = let l = placed left (right ∷ []) e in (l .0, placed right [] (l .1) .0)
 
+  -- an operation that is not refused
   proper : (o : Operation N) → let c = operate (o .number) (o .left) (o .right) (o .supplied) in Accepted c L (step c L) → Proper m j (deed m o)
   proper o a =
       let both = both-placed (one-sided (o .number)) (o .left) (o .right) (a .passed .all-live) in
@@ -67,7 +72,7 @@ module _ {N : Numbers} {A : Arrays N} {m first k : ℕ} where
       let rest = told os (suc j) _ (recorded s (o .number) (o .left) (o .right) (o .supplied) a) us in
       let spent : L .state .next ≡ last-serial → ⊥ = eqb-false _ _ (rw (s .active) at (a .passed .serial)) in
       record {
-        deeds = (proper L m j (s .nodes) o a, rest .deeds);
+        deeds = (proper L m j (s .counted .nodes) o a, rest .deeds);
         serials = λ h. omega (arith, rest .serials (omega arith));
         stands = rw (add-suc, ← suc-add) (rest .stands);
       }
@@ -75,6 +80,7 @@ module _ {N : Numbers} {A : Arrays N} {m first k : ℕ} where
 -- ---- revolutions one after another
 
 module _ {N : Numbers} {A : Arrays N} {m first : ℕ} where
+  -- each revolution has room and a root of its own, and none is given the last serial
   told-turns : (rs : List (Revolution N)) (k : ℕ) (L : Machine N) → Stands A m first k 0 L → AtOrPast m rs → Unrefused (run (turned rs) L .0)
       → AllTurns (capacity A) m (map (turn m) rs) × Spared k (recorded-by (map (turn m) rs))
   told-turns [] k L s roots u = (tt, λ h. omega arith)
@@ -84,16 +90,17 @@ module _ {N : Numbers} {A : Arrays N} {m first : ℕ} where
       let (first-part, (p, (w, rest))) = unrefused-parts (recordings os) (back ∷ move rewind-to-mark ∷ turned rs) L u in
       let t = told os 0 L s first-part in
       let L₁ = after (recordings os) L in
+      let s₁ = t .stands in
       let a = accepted back L₁ p in
       let alive = first-live L₁ (r .root) [] (a .passed .all-live) in
       let n = length-map os (deed m) in
-      let more = told-turns rs _ _ (rewound (walked (t .stands) _ a) (accepted (move rewind-to-mark) (step back L₁ .1) w)) roots rest in
-      let s₁ = t .stands in
+      let more = told-turns rs _ _ (rewound (walked s₁ _ a) (accepted (move rewind-to-mark) (step back L₁ .1) w)) roots rest in
       ((record { deeds = t .deeds; room = omega arith; root = omega arith }, more .0), λ h. omega (arith, more .1 (omega (arith, t .serials (omega arith)))))
 
 -- ---- the session
 
-pub fitting : {N : Numbers} (s : Session N) (M : Machine N) → AtOrPast (length (s .model)) (s .revolutions) → Unrefused (run (calls s) M .0) → Fitting M (meaning s)
+-- with no reads among its calls
+fitting : {N : Numbers} (s : Session N) (M : Machine N) → AtOrPast (length (s .model)) (s .revolutions) → Unrefused (run (calls s) M .0) → Fitting M (meaning s)
 fitting s M roots (u, us) =
     let os = s .model in
     let a = accepted (move start) M u in
@@ -116,5 +123,6 @@ fitting s M roots (u, us) =
       serials = λ h. omega (arith, more .1 (omega (arith, t .serials (omega arith))));
     }
 
+-- with reads among them
 pub plays-fitting : {N : Numbers} (s : Session N) (cs : List (Call N)) (M : Machine N) → Plays s cs M → Fitting M (meaning s)
 plays-fitting s cs M p = fitting s M (p .roots) (rw (p .session) at (reads-left-out cs M (p .unrefused) .unrefused))
