@@ -146,7 +146,7 @@ ends propagate-to-mark M f all-live = omega arith
 ends propagate-mark-to-start M f all-live = omega arith
 
 module _ {N : Numbers} (M : Machine N) (nodes : SoundNodes M) where
-  range-sound : (c : Call N) → fits (asked c (M .state) .arrays) M ≡ true → any-stale M (handles (asked c (M .state) .operands)) ≡ false → all (map (sound (M .lent)) (asked c (M .state) .range)) ≡ true
+  pub range-sound : (c : Call N) → fits (asked c (M .state) .arrays) M ≡ true → any-stale M (handles (asked c (M .state) .operands)) ≡ false → all (map (sound (M .lent)) (asked c (M .state) .range)) ≡ true
   range-sound (pass p) shape all-live =
       let P = plan p (M .state) in
       let end : P .end ≤ M .state .length = ends p M (fit M shape) all-live in

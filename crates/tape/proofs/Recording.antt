@@ -76,7 +76,7 @@ sound-by A i k es count few same below = rw (count, same, le-leb k 2 few) below
 abbrev pub SoundNodes : {N : Numbers} → Machine N → Type 0
 SoundNodes M = (i : ℕ) → i < M .state .length → sound (M .lent) i ≡ true
 
-sound-kept : {N : Numbers} (M : Machine N) (x : Answer N × Machine N) → Effect M x → SoundNodes M → SoundNodes (x .1)
+pub sound-kept : {N : Numbers} (M : Machine N) (x : Answer N × Machine N) → Effect M x → SoundNodes M → SoundNodes (x .1)
 sound-kept M _ (keeps l) is = λ i h. is i (omega arith)
 sound-kept M _ (records v es r s) is =
     let n = M .state .length in

@@ -1,0 +1,320 @@
+-- Wrong answers that the promises of crates `tape`, `expr`, `dual` and `listing` rule out, two or more for each function. `Tried` says what a row is; `CallsTried` is proved in proofs/Wrong.antt, by computation.
+use Prim.Native.Nat.{ℕ}
+use mathlib.Core.Path.{_≡_}
+use mathlib.Core.Bool.{Bool, true, false, cond}
+use mathlib.Core.List.{List, [], _∷_, _++_, map}
+use mathlib.Core.Option.{Option, none, some}
+use lib.Ieee.{Float, nan, binary64, toBits, div, neg as minus}
+use lib.ListN.{set, take, replicate}
+use Rattle.tape.specs.Numbers.{floats}
+use Rattle.tape.specs.Machine.{Arrays, Machine, arrays, machine, new-tape, fits}
+use Rattle.tape.specs.Handles.{Operand, plain, node, looked-up}
+use Rattle.tape.specs.Walk.{Edge}
+use Rattle.tape.specs.Listing.{listing}
+use Rattle.tape.specs.Answers.{Answer, number, refused, done, told, recorded, counted}
+use Rattle.tape.specs.Calls.{Move, start, stop, set-mark, reset-mark, rewind-to-mark, rewind-to-init, move, operate, clear, pass, backward, backward-to-mark, backward-mark-to-start, propagate-to-mark, propagate-mark-to-start, value-of, adjoint-of, is-live, issued, written, with-adjoints, step}
+use Rattle.tape.specs.Kept.{fresh, after}
+use Rattle.tape.specs.Rows.{float, sevens, handle, first, node-at, leaf, four-calls}
+use Rattle.tape.specs.declared.errors.Refusal.the-variants.{Misshapen, UnknownOperation, NotLive as Refusal·NotLive, Detached, Full, SerialsSpent, ListingTooLong}
+use Rattle.tape.specs.declared.node.Handle.{Handle}
+use Rattle.tape.specs.declared.node.Lookup.{Lookup}
+use Rattle.tape.specs.declared.node.Lookup.the-variants.{Live, NotLive}
+use Rattle.tape.specs.declared.state.Tape.{Tape}
+use Rattle.expr.specs.Operators as expr
+use Rattle.listing.specs.Outcome.{listed}
+use Rattle.decided.specs.Tried.{Tried, tried, ruled-out}
+
+-- ---- how answers are written out
+
+abbrev pub bits : Float → ℕ
+bits = toBits binary64
+
+abbrev pub a-number : ℕ → ℕ → Tried
+a-number = tried (λ k. k ∷ [])
+
+abbrev pub a-bool : Bool → Bool → Tried
+a-bool = tried (λ b. cond b 1 0 ∷ [])
+
+abbrev pub found : Lookup → ℕ
+found Live = 1
+found NotLive = 0
+
+abbrev pub a-lookup : Lookup → Lookup → Tried
+a-lookup = tried (λ l. found l ∷ [])
+
+abbrev pub state-shown : Tape → List ℕ
+state-shown t = t .length ∷ t .mark ∷ cond (t .active) 1 0 ∷ t .next ∷ []
+
+abbrev pub a-state : Tape → Tape → Tried
+a-state = tried state-shown
+
+abbrev pub handle-shown : Option Handle → List ℕ
+handle-shown none = []
+handle-shown (some h) = h .index ∷ h .serial ∷ []
+
+abbrev pub shown : Answer floats × Machine floats → List ℕ
+shown (a, M) =
+    a .number ∷ bits (a .value) ∷ a .count ∷ handle-shown (a .handle) ++ state-shown (M .state)
+    ++ map bits (M .lent .value) ++ map bits (M .lent .adjoint) ++ M .lent .serial ++ M .lent .count ++ M .lent .child ++ map bits (M .lent .partial)
+
+abbrev pub a-step : Answer floats × Machine floats → Answer floats × Machine floats → Tried
+a-step = tried shown
+
+abbrev pub a-listing : (Answer floats × Machine floats) × List ℕ → (Answer floats × Machine floats) × List ℕ → Tried
+a-listing = tried (λ (x, out). shown x ++ out)
+
+-- ---- what they are tried on
+
+abbrev pub nought : Float
+nought = floats .nought
+
+abbrev pub one : Float
+one = floats .one
+
+abbrev pub over : ℕ → ℕ → Float
+over a b = div binary64 (float a) (float b)
+
+abbrev pub state : ℕ → ℕ → Bool → ℕ → Tape
+state length mark active next = record { length = length; mark = mark; active = active; next = next }
+
+-- a tape of four nodes' room, 9 the next serial
+abbrev pub kept : ℕ → ℕ → Bool → Machine floats
+kept length mark active = machine (state length mark active 9) (sevens 4)
+
+-- three nodes, mark 1, active: a move should not leave this state
+abbrev pub a-move : Move → Tape → Tried
+a-move m wrong = a-step (step (move m) (kept 3 1 true)) (done, machine wrong (sevens 4))
+
+-- five adjoints where four nodes have room
+abbrev pub longer : Arrays floats
+longer = arrays (sevens 4 .value) (sevens 5 .adjoint) (sevens 4 .serial) (sevens 4 .count) (sevens 4 .child) (sevens 4 .partial)
+
+-- leaves 3 and 2, and room for one more node
+abbrev pub two : Machine floats
+two = after (move start ∷ leaf (float 3) ∷ leaf (float 2) ∷ []) (fresh (sevens 3))
+
+abbrev pub x0 : Operand floats
+x0 = node-at 0
+
+abbrev pub x1 : Operand floats
+x1 = node-at 1
+
+-- the index of the second leaf with a serial that is not its own
+abbrev pub stale : Operand floats
+stale = node (handle 1 9)
+
+abbrev pub to : ℕ → Float → Edge floats
+to i p = record { child = i; weight = p }
+
+-- a third node of this value, with these edges
+abbrev pub recording : Float → List (Edge floats) → Answer floats × Machine floats
+recording v es = (recorded v (issued (two .state)), written two v es)
+
+-- the same with another adjoint, or another partial in its first slot
+abbrev pub with-adjoint : Float → Answer floats × Machine floats → Answer floats × Machine floats
+with-adjoint a (x, M) = (x, with-adjoints M (set (M .lent .adjoint) 2 a))
+
+abbrev pub with-partial : Float → Answer floats × Machine floats → Answer floats × Machine floats
+with-partial p (x, M) = (x, machine (M .state) (arrays (M .lent .value) (M .lent .adjoint) (M .lent .serial) (M .lent .count) (M .lent .child) (set (M .lent .partial) 4 p)))
+
+-- 5 - x1 with its one edge in the node's second slot
+abbrev pub in-second-slot : Answer floats × Machine floats
+in-second-slot =
+    let (x, M) = recording (float 3) (to 1 (minus one) ∷ []) in
+    (x, machine (M .state) (arrays (M .lent .value) (M .lent .adjoint) (M .lent .serial) (M .lent .count) (replicate 5 7 ++ (1 ∷ [])) (replicate 5 (float 7) ++ (minus one ∷ []))))
+
+-- the listing's four nodes, whose adjoints are 3, 3, 1 and 1, with room for a fifth, and the mark at m
+abbrev pub marked : ℕ → Machine floats
+marked m = machine (state 4 m true 5) (after four-calls (fresh (sevens 5)) .lent)
+
+-- a pass that leaves these adjoints
+abbrev pub passed : Machine floats → ℕ → List ℕ → Answer floats × Machine floats
+passed M edges adjoints = (counted edges, with-adjoints M (map float adjoints))
+
+-- ---- wrong answers: tape
+
+-- number: two refusals of one number; 0, an answer's number
+abbrev pub number-tried : List Tried
+number-tried = a-number (number Full) (number SerialsSpent)
+    ∷ a-number (number Misshapen) 0 ∷ []
+
+-- lookup: the serial of another index compared; a handle with serial 0 live where 0 is stored
+abbrev pub lookup-tried : List Tried
+lookup-tried = a-lookup (looked-up 2 (7 ∷ 9 ∷ []) (handle 1 7)) Live
+    ∷ a-lookup (looked-up 1 (0 ∷ []) (handle 0 0)) Live ∷ []
+
+-- new: an active tape; a first serial of 0
+abbrev pub new-tried : List Tried
+new-tried = a-state new-tape (state 0 0 true 1)
+    ∷ a-state new-tape (state 0 0 false 0) ∷ []
+
+-- start_recording: serials that begin anew; the mark kept
+abbrev pub start-recording-tried : List Tried
+start-recording-tried = a-move start (state 0 0 true 1)
+    ∷ a-move start (state 0 1 true 9) ∷ []
+
+-- stop_recording: the nodes dropped; a refusal where the tape is inactive already
+abbrev pub stop-recording-tried : List Tried
+stop-recording-tried = a-move stop (state 0 0 false 9)
+    ∷ a-step (step (move stop) (kept 3 1 false)) (refused Misshapen, kept 3 1 false) ∷ []
+
+-- set_mark: the mark on the last node; the length lowered
+abbrev pub set-mark-tried : List Tried
+set-mark-tried = a-move set-mark (state 3 2 true 9)
+    ∷ a-move set-mark (state 1 1 true 9) ∷ []
+
+-- reset_mark: the mark at the length; the nodes dropped
+abbrev pub reset-mark-tried : List Tried
+reset-mark-tried = a-move reset-mark (state 3 3 true 9)
+    ∷ a-move reset-mark (state 0 0 true 9) ∷ []
+
+-- rewind_to_mark: the mark reset too; a mark over the length let through, which would lengthen the tape
+abbrev pub rewind-to-mark-tried : List Tried
+rewind-to-mark-tried = a-move rewind-to-mark (state 1 0 true 9)
+    ∷ a-step (step (move rewind-to-mark) (kept 1 2 true)) (done, kept 2 2 true) ∷ []
+
+-- rewind_to_init: the tape active after it; the next serial lowered
+abbrev pub rewind-to-init-tried : List Tried
+rewind-to-init-tried = a-step (step (move rewind-to-init) (kept 3 1 false)) (done, kept 0 0 true)
+    ∷ a-move rewind-to-init (state 0 0 true 1) ∷ []
+
+-- admits: a length over the capacity let through; an array longer than it has to be
+abbrev pub admits-tried : List Tried
+admits-tried = a-bool (fits true (kept 5 0 true)) true
+    ∷ a-bool (fits true (machine (state 1 0 true 9) longer)) true ∷ []
+
+-- ---- wrong answers: expr
+
+-- record: the new node's adjoint as its value; a right handle that is not live refused at 7
+abbrev pub record-tried : List Tried
+record-tried = a-step (step (expr.neg x0) two) (with-adjoint (minus (float 3)) (recording (minus (float 3)) (to 0 (minus one) ∷ [])))
+    ∷ a-step (step (operate 7 x0 stale expr.nothing) two) (refused Refusal·NotLive, two) ∷ []
+
+-- new_leaf: an adjoint left by the slot's last tenant; an unused edge slot cleared
+abbrev pub new-leaf-tried : List Tried
+new-leaf-tried = a-step (step (expr.new-leaf (float 5)) two) (with-adjoint (float 7) (recording (float 5) []))
+    ∷ a-step (step (expr.new-leaf (float 5)) two) (with-partial nought (recording (float 5) [])) ∷ []
+
+-- put_on_tape: an edge to the node that the value came from; a handle that is not live let through
+abbrev pub put-on-tape-tried : List Tried
+put-on-tape-tried = a-step (step (expr.put-on-tape x0) two) (recording (float 3) (to 0 one ∷ []))
+    ∷ a-step (step (expr.put-on-tape stale) two) (recording (float 2) []) ∷ []
+
+-- add: one edge for equal operands; an edge for a plain number
+abbrev pub add-tried : List Tried
+add-tried = a-step (step (expr.add x0 x0) two) (recording (float 6) (to 0 (float 2) ∷ []))
+    ∷ a-step (step (expr.add x0 (plain (float 2))) two) (recording (float 5) (to 0 one ∷ to 0 one ∷ [])) ∷ []
+
+-- sub: the right partial as 1; a right edge at slot 2i + 1 where the left operand is a number
+abbrev pub sub-tried : List Tried
+sub-tried = a-step (step (expr.sub x0 x1) two) (recording one (to 0 one ∷ to 1 one ∷ []))
+    ∷ a-step (step (expr.sub (plain (float 5)) x1) two) in-second-slot ∷ []
+
+-- mul: the partials exchanged; equal operands as one edge of twice the partial
+abbrev pub mul-tried : List Tried
+mul-tried = a-step (step (expr.mul x0 x1) two) (recording (float 6) (to 0 (float 3) ∷ to 1 (float 2) ∷ []))
+    ∷ a-step (step (expr.mul x0 x0) two) (recording (float 9) (to 0 (float 6) ∷ [])) ∷ []
+
+-- div: the left partial as l / r; a refusal at r = 0
+abbrev pub div-tried : List Tried
+div-tried = a-step (step (expr.div x0 x1) two) (recording (over 3 2) (to 0 (over 3 2) ∷ to 1 (minus (over 3 4)) ∷ []))
+    ∷ a-step (step (expr.div x0 (plain nought)) two) (refused UnknownOperation, two) ∷ []
+
+-- max: a partial of 1 at a tie; the number in place of a NaN on the right
+abbrev pub max-tried : List Tried
+max-tried = a-step (step (expr.max x0 x0) two) (recording (float 3) (to 0 one ∷ to 0 nought ∷ []))
+    ∷ a-step (step (expr.max x0 (plain nan)) two) (recording (float 3) (to 0 nought ∷ [])) ∷ []
+
+-- min: a partial of 1 at a tie; the number in place of a NaN on the right
+abbrev pub min-tried : List Tried
+min-tried = a-step (step (expr.min x0 x0) two) (recording (float 3) (to 0 one ∷ to 0 nought ∷ []))
+    ∷ a-step (step (expr.min x0 (plain nan)) two) (recording (float 3) (to 0 nought ∷ [])) ∷ []
+
+-- neg: -x, which is -0.0 at +0.0; a partial of 1
+abbrev pub neg-tried : List Tried
+neg-tried = a-step (step (expr.neg (plain nought)) two) (recording (minus nought) [])
+    ∷ a-step (step (expr.neg x0) two) (recording (minus (float 3)) (to 0 one ∷ [])) ∷ []
+
+-- supplied_one: the supplied partial stored where the operand is a number; a handle that is not live let through, since its value is not used
+abbrev pub supplied-one-tried : List Tried
+supplied-one-tried = a-step (step (expr.supplied-one (plain (float 5)) (float 9) (float 8)) two) (with-partial (float 8) (recording (float 9) []))
+    ∷ a-step (step (expr.supplied-one stale (float 9) (float 8)) two) (recording (float 9) (to 1 (float 8) ∷ [])) ∷ []
+
+-- supplied_two: the right edge before the left; the value reckoned from the operands
+abbrev pub supplied-two-tried : List Tried
+supplied-two-tried = a-step (step (expr.supplied-two x0 x1 (float 9) (float 8) (float 4)) two) (recording (float 9) (to 1 (float 4) ∷ to 0 (float 8) ∷ []))
+    ∷ a-step (step (expr.supplied-two x0 x1 (float 9) (float 8) (float 4)) two) (recording (float 5) (to 0 (float 8) ∷ to 1 (float 4) ∷ [])) ∷ []
+
+-- ---- wrong answers: dual
+
+-- value: a number refused 4; the value behind a handle that is not live
+abbrev pub value-tried : List Tried
+value-tried = a-step (step (value-of (plain (float 5))) (marked 2)) (refused Detached, marked 2)
+    ∷ a-step (step (value-of stale) (marked 2)) (told (float 2), marked 2) ∷ []
+
+-- adjoint: a handle that is not live refused 4; 0.0 for a number, which is refused
+abbrev pub adjoint-tried : List Tried
+adjoint-tried = a-step (step (adjoint-of stale) (marked 2)) (refused Detached, marked 2)
+    ∷ a-step (step (adjoint-of (plain (float 5))) (marked 2)) (told nought, marked 2) ∷ []
+
+-- is_live: a refusal for a handle that is not live; a number that is live
+abbrev pub is-live-tried : List Tried
+is-live-tried = a-step (step (is-live stale) (marked 2)) (refused Refusal·NotLive, marked 2)
+    ∷ a-step (step (is-live (plain (float 5))) (marked 2)) (counted 1, marked 2) ∷ []
+
+-- reset_adjoints: adjoints past the length cleared; -0.0 for +0.0
+abbrev pub reset-adjoints-tried : List Tried
+reset-adjoints-tried = a-step (step clear (marked 2)) (done, with-adjoints (marked 2) (replicate 5 nought))
+    ∷ a-step (step clear (marked 2)) (done, with-adjoints (marked 2) (replicate 4 (minus nought) ++ (float 7 ∷ []))) ∷ []
+
+-- backward: a walk from the end, wherever the root stands; the adjoints cleared first
+abbrev pub backward-tried : List Tried
+backward-tried = a-step (step (pass (backward (node-at 2))) (marked 2)) (passed (marked 2) 4 (8 ∷ 9 ∷ 2 ∷ 1 ∷ 7 ∷ []))
+    ∷ a-step (step (pass (backward (node-at 2))) (marked 2)) (passed (marked 2) 2 (2 ∷ 3 ∷ 1 ∷ 0 ∷ 7 ∷ [])) ∷ []
+
+-- backward_to_mark: 1.0 added to the root's adjoint; a walk that begins at the root
+abbrev pub backward-to-mark-tried : List Tried
+backward-to-mark-tried = a-step (step (pass (backward-to-mark (node-at 3))) (marked 2)) (passed (marked 2) 4 (11 ∷ 12 ∷ 3 ∷ 2 ∷ 7 ∷ []))
+    ∷ a-step (step (pass (backward-to-mark (node-at 2))) (marked 2)) (passed (marked 2) 2 (5 ∷ 6 ∷ 1 ∷ 1 ∷ 7 ∷ [])) ∷ []
+
+-- backward_mark_to_start: the edges of a root past the mark walked; the root's adjoint left as it was
+abbrev pub backward-mark-to-start-tried : List Tried
+backward-mark-to-start-tried = a-step (step (pass (backward-mark-to-start (node-at 3))) (marked 2)) (passed (marked 2) 2 (4 ∷ 3 ∷ 2 ∷ 1 ∷ 7 ∷ []))
+    ∷ a-step (step (pass (backward-mark-to-start (node-at 0))) (marked 2)) (passed (marked 2) 0 (3 ∷ 3 ∷ 1 ∷ 1 ∷ 7 ∷ [])) ∷ []
+
+-- propagate_to_mark: each adjoint 0 or 1; the adjoints untouched
+abbrev pub propagate-to-mark-tried : List Tried
+propagate-to-mark-tried = a-step (step (pass propagate-to-mark) (marked 2)) (passed (marked 2) 4 (1 ∷ 1 ∷ 1 ∷ 1 ∷ 7 ∷ []))
+    ∷ a-step (step (pass propagate-to-mark) (marked 2)) (passed (marked 2) 4 (3 ∷ 3 ∷ 1 ∷ 1 ∷ 7 ∷ [])) ∷ []
+
+-- propagate_mark_to_start: a count of 0; a count of the nodes
+abbrev pub propagate-mark-to-start-tried : List Tried
+propagate-mark-to-start-tried = a-step (step (pass propagate-mark-to-start) (marked 3)) (passed (marked 3) 0 (5 ∷ 6 ∷ 1 ∷ 1 ∷ 7 ∷ []))
+    ∷ a-step (step (pass propagate-mark-to-start) (marked 3)) (passed (marked 3) 3 (5 ∷ 6 ∷ 1 ∷ 1 ∷ 7 ∷ [])) ∷ []
+
+-- ---- wrong answers: listing
+
+-- list: bytes written where the listing does not fit; a listing refused that fits to the last byte; the bytes after it cleared
+abbrev pub list-tried : List Tried
+list-tried = a-listing (listed (marked 2) (replicate 10 120)) ((refused ListingTooLong, marked 2), take 10 (listing (marked 2)))
+    ∷ a-listing (listed (marked 2) (replicate 220 120)) ((refused ListingTooLong, marked 2), replicate 220 120)
+    ∷ a-listing (listed (marked 2) (replicate 221 120)) ((counted 220, marked 2), listing (marked 2) ++ (0 ∷ [])) ∷ []
+
+-- bits_of: a NaN with another pattern; one bit pattern for both zeros
+abbrev pub bits-of-tried : List Tried
+bits-of-tried = a-number (bits nan) 0xfff8_0000_0000_0000
+    ∷ a-number (bits (minus nought)) (bits nought) ∷ []
+
+abbrev pub calls-tried : List Tried
+calls-tried =
+    number-tried ++ lookup-tried ++ new-tried ++ start-recording-tried ++ stop-recording-tried
+    ++ set-mark-tried ++ reset-mark-tried ++ rewind-to-mark-tried ++ rewind-to-init-tried ++ admits-tried
+    ++ record-tried ++ new-leaf-tried ++ put-on-tape-tried ++ add-tried ++ sub-tried
+    ++ mul-tried ++ div-tried ++ max-tried ++ min-tried ++ neg-tried
+    ++ supplied-one-tried ++ supplied-two-tried ++ value-tried ++ adjoint-tried ++ is-live-tried
+    ++ reset-adjoints-tried ++ backward-tried ++ backward-to-mark-tried ++ backward-mark-to-start-tried ++ propagate-to-mark-tried
+    ++ propagate-mark-to-start-tried ++ list-tried ++ bits-of-tried
+
+-- none of them is the rule's answer
+abbrev pub CallsTried : Type 0
+CallsTried = ruled-out calls-tried ≡ true

@@ -1,0 +1,144 @@
+-- The session that was chosen for a meaning that fits is not refused.
+use Prim.Native.Nat.{ℕ, suc, _+_, _≤_, _<_}
+use native.Mathlib.Nat.{zero-add}
+use native.Mathlib.Omega.{arith}
+use mathlib.Core.Path.{_≡_, refl, ap}
+use mathlib.Core.Bool.{Bool, true, false, not, cond}
+use mathlib.Core.List.{List, [], _∷_, _++_, map, append-assoc}
+use borrow.Author.Tests.{ne-eqb}
+use lib.ListN.{length, getD, length-map}
+use Rattle.tape.specs.Numbers.{Numbers}
+use Rattle.tape.specs.Machine.{Arrays, Machine, machine, capacity, fits}
+use Rattle.tape.specs.Handles.{Operand, live, handles, any-plain}
+use Rattle.tape.specs.Operations.{known, one-sided}
+use Rattle.tape.specs.Calls.{Call, Move, move, start, set-mark, rewind-to-mark, operate, clear, Pass, pass, backward-to-mark, propagate-mark-to-start, plan, any-stale, last-serial, step, run}
+use Rattle.tape.specs.Kept.{after}
+use Rattle.tape.specs.Passes.{Unrefused}
+use Rattle.tape.specs.declared.state.Tape.{Tape}
+use Rattle.tape.proofs.Passes.{Accepted, carried-number, range-sound}
+use Rattle.tape.proofs.Steps.{Passed, lives-so}
+use Rattle.tape.proofs.Tests.{Fit, refits, state-fit-so}
+use Rattle.revolutions.specs.Revolutions.{Meant, in-model, own, number, Deed, Turn, Meaning, recordings, turned, calls, Another}
+use Rattle.revolutions.proofs.Runs.{unrefused-append}
+use Rattle.revolutions.proofs.Fitting.{Placed, Proper, AllProper, AllTurns, recorded-by, Spared, Fitting}
+use Rattle.revolutions.proofs.Standing.{Stands, stands-fit, started, recorded, marked, cleared, walked, rewound}
+use Rattle.revolutions.proofs.Told.{told}
+use Rattle.revolutions.proofs.Chosen.{operand, operation, revolutions, session, nothing-read, roots, means}
+
+-- ---- one call
+
+-- a call that no test hits does what `carried` says
+passes : {N : Numbers} (c : Call N) (L : Machine N) → Passed c L → Accepted c L (step c L)
+unfolding step
+passes c L p = record { passed = p; carries = rw (p .shape, p .known, p .all-live, p .standing, p .room, p .serial, p .sound-range, p .short) }
+
+-- and answers with number 0
+answers : {N : Numbers} {c : Call N} {L : Machine N} → Accepted c L (step c L) → step c L .0 .number ≡ 0
+answers {c = c} {L} a = rw (a .carries) (carried-number c L)
+
+-- a move tests the state alone
+moves-so : {N : Numbers} (c : Move) (L : Machine N) → fits false L ≡ true → Accepted (move c) L (step (move c) L)
+moves-so c L shape = passes (move c) L (record { shape = shape; known = refl; all-live = refl; standing = refl; room = refl; serial = refl; sound-range = refl; short = refl })
+
+module _ {N : Numbers} {A : Arrays N} {m first k j : ℕ} {L : Machine N} {t : Tape} (f : Fit (machine t A)) (s : Stands A m first k j L) where
+  -- on such a machine no move is refused
+  moves : (c : Move) → Accepted (move c) L (step (move c) L)
+  moves c = let g = stands-fit s f in moves-so c L (state-fit-so 65535 (L .state) (omega arith))
+
+  -- a call that is lent the arrays is not refused for its shape
+  lent-fits : fits true L ≡ true
+  lent-fits = let g = stands-fit s f in refits L (L .state) g (g .state)
+
+  clears : Accepted clear L (step clear L)
+  clears = passes clear L (record { shape = lent-fits; known = refl; all-live = refl; standing = refl; room = refl; serial = refl; sound-range = refl; short = refl })
+
+  walks : (p : Pass N) → any-stale L (handles (plan p (L .state) .root)) ≡ false → any-plain (plan p (L .state) .root) ≡ false → Accepted (pass p) L (step (pass p) L)
+  walks p root standing =
+      passes (pass p) L
+      (record { shape = lent-fits; known = refl; all-live = root; standing = standing; room = refl; serial = refl; sound-range = range-sound L (s .sound) (pass p) lent-fits root; short = refl })
+
+  -- a handle with the serial that is stored at its index
+  alive : (i n : ℕ) → i < m + j → 0 < n → getD (L .lent .serial) i 0 ≡ n → live L (record { index = i; serial = n }) ≡ true
+  alive i n below issued same = lives-so _ (L .lent .serial) _ (record { below = omega arith; serial = λ e. omega arith; same = same })
+
+  -- the handles that were chosen for operands that stand before a deed are live
+  operand-lives : (x : Meant N) (os : List (Operand N)) → Placed m j x → any-stale L (handles os) ≡ false → any-stale L (handles (operand m first k x ∷ os)) ≡ false
+  operand-lives (in-model i) os h e = rw (alive i (first + i) (omega arith) (omega arith) (s .models i h)) e
+  operand-lives (own i) os h e = rw (alive (m + i) (k + i) (omega arith) (omega arith) (s .owns i h)) e
+  operand-lives (number x) os h e = e
+
+  -- and so are those of the operands that a deed uses
+  both-live : (alone : Bool) (x y : Meant N) → Placed m j x → Placed m j y → any-stale L (handles (cond alone (operand m first k x ∷ []) (operand m first k x ∷ operand m first k y ∷ []))) ≡ false
+  both-live true x y p q = operand-lives x [] p refl
+  both-live false x y p q = operand-lives x (operand m first k y ∷ []) p (operand-lives y [] q refl)
+
+  -- a deed that is proper is recorded where there is room and a serial
+  operates : (d : Deed N) → Proper m j d → m + j < capacity A → (k + j ≡ last-serial → ⊥)
+      → let c = operate (d .operation) (operand m first k (d .left)) (operand m first k (d .right)) (d .supplied) in Accepted c L (step c L)
+  operates d p room spared =
+      passes
+      _
+      L
+      (record {
+        shape = lent-fits;
+        known = ap not (p .operation);
+        all-live = both-live (one-sided (d .operation)) (d .left) (d .right) (p .left) (p .right);
+        standing = refl;
+        room = rw (s .active) (ne-eqb (L .state .length) (capacity (L .lent)) (λ e. omega arith));
+        serial = rw (s .active) (ne-eqb (L .state .next) last-serial (λ e. spared (omega arith)));
+        sound-range = refl;
+        short = refl;
+      })
+
+-- ---- operations one after another, and revolutions
+
+module _ {N : Numbers} {A : Arrays N} {t : Tape} (f : Fit (machine t A)) (m first : ℕ) where
+  -- deeds from place j on
+  operations-play : (k j : ℕ) (ds : List (Deed N)) (L : Machine N) → Stands A m first k j L → AllProper m j ds → m + j + length ds ≤ capacity A → Spared (k + j) (length ds)
+      → Unrefused (run (recordings (map (operation m first k) ds)) L .0)
+  operations-play k j [] L s p room spared = tt
+  operations-play k j (d ∷ ds) L s (p, ps) room spared =
+      let a = operates f s d p (omega arith) (λ e. omega (arith, spared (omega arith))) in
+      (answers a, operations-play k (suc j) ds _ (recorded s _ _ _ _ a) ps (omega arith) (λ h. omega (arith, spared (omega arith))))
+
+  -- from the first place on, and where that leads
+  all-played : (k : ℕ) (ds : List (Deed N)) (L : Machine N) → let cs = recordings (map (operation m first k) ds) in
+      Stands A m first k 0 L → AllProper m 0 ds → m + length ds ≤ capacity A → Spared k (length ds) → Unrefused (run cs L .0) × Stands A m first k (length ds) (after cs L)
+  all-played k ds L s p room spared =
+      let unrefused = operations-play k 0 ds L s p (omega arith) (λ h. omega (arith, spared (omega arith))) in
+      (unrefused, rw (zero-add, length-map) at (told (map (operation m first k) ds) 0 L s unrefused .stands))
+
+  -- revolutions, and the last pass
+  revolutions-play : (k : ℕ) (ts : List (Turn N)) (L : Machine N) → Stands A m first k 0 L → AllTurns (capacity A) m ts → Spared k (recorded-by ts)
+      → Unrefused (run (turned (revolutions m first k ts) ++ (pass propagate-mark-to-start ∷ [])) L .0)
+  revolutions-play k [] L s p spared = (answers (walks f s propagate-mark-to-start refl refl), tt)
+  revolutions-play k (u ∷ ts) L s (p, ps) spared =
+      let (unrefused, s₁) = all-played k (u .deeds) L s (p .deeds) (p .room) (λ h. omega (arith, spared h)) in
+      let a = walks f s₁ (backward-to-mark (operand m first k (own (u .root)))) (operand-lives f s₁ (own (u .root)) [] (p .root) refl) refl in
+      let s₂ = walked s₁ _ a in
+      let b = moves f s₂ rewind-to-mark in
+      let rest = revolutions-play (k + length (u .deeds)) ts _ (rewound s₂ b) ps (λ h. omega (arith, spared (omega arith))) in
+      rw append-assoc (unrefused-append (recordings (map (operation m first k) (u .deeds))) _ L unrefused (answers a, (answers b, rest)))
+
+-- ---- the session
+
+module _ {N : Numbers} (M : Machine N) (meant : Meaning N) (f : Fitting M meant) where
+  session-plays : Unrefused (run (calls (session M meant)) M .0)
+  session-plays =
+      let k = M .state .next in
+      let m = length (meant .model) in
+      let a = moves-so start M (f .state) in
+      let (unrefused, s₁) = all-played (f .arrays) 0 k k (meant .model) _ (started M a) (f .model) (omega arith) (λ h. omega (arith, f .serials h)) in
+      let b = moves (f .arrays) s₁ set-mark in
+      let s₂ = marked s₁ b in
+      let c = clears (f .arrays) s₂ in
+      let rest = revolutions-play (f .arrays) m k (k + m) (meant .turns) _ (cleared s₂ c) (f .turns) (λ h. omega (arith, f .serials (omega arith))) in
+      (answers a, unrefused-append (recordings (map (operation 0 k k) (meant .model))) _ _ unrefused (answers b, (answers c, rest)))
+
+  pub another : Another M meant
+  another =
+      record {
+        session = session M meant;
+        plays = record { session = nothing-read (session M meant); unrefused = session-plays; roots = roots M meant };
+        means = means M meant f;
+      }

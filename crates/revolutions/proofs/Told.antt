@@ -1,0 +1,128 @@
+-- A session that plays has a meaning that fits: what its calls tell by not being refused.
+use Prim.Native.Nat.{ℕ, suc, _+_}
+use native.Mathlib.Nat.{add-zero, add-suc, suc-add, zero-add}
+use native.Mathlib.Omega.{arith}
+use mathlib.Core.Path.{_≡_, refl}
+use mathlib.Core.Bool.{Bool, true, false, not, cond}
+use mathlib.Core.List.{List, [], _∷_, _++_, map}
+use borrow.Author.Tests.{ltb-true, ltb-false, eqb-false, not-false}
+use lib.Dec.{ltb}
+use lib.ListN.{length, length-map}
+use Rattle.tape.specs.Numbers.{Numbers}
+use Rattle.tape.specs.Machine.{Arrays, Machine, capacity}
+use Rattle.tape.specs.Handles.{Operand, plain, node, live, handles}
+use Rattle.tape.specs.Operations.{known, one-sided}
+use Rattle.tape.specs.Calls.{Call, move, start, set-mark, rewind-to-mark, operate, clear, pass, backward-to-mark, propagate-mark-to-start, any-stale, last-serial, step, run}
+use Rattle.tape.specs.Kept.{after}
+use Rattle.tape.specs.Passes.{Unrefused}
+use Rattle.tape.specs.declared.node.Handle.{Handle}
+use Rattle.tape.proofs.Passes.{Accepted, accepted}
+use Rattle.tape.proofs.Steps.{Lives, lives-told, or-false}
+use Rattle.tape.proofs.Tests.{by-test, fit}
+use Rattle.revolutions.specs.Revolutions.{Operation, Revolution, Session, number, meant, deed, turn, meaning, recordings, turned, calls, AtOrPast, Plays}
+use Rattle.revolutions.proofs.Runs.{reads-left-out, unrefused-parts}
+use Rattle.revolutions.proofs.Fitting.{Placed, Proper, AllProper, AllTurns, recorded-by, Spared, Fitting}
+use Rattle.revolutions.proofs.Standing.{Stands, started, recorded, marked, cleared, walked, rewound}
+
+-- ---- one operation
+
+-- a branch taken twice is taken once
+twice : {A : Type 0} (b : Bool) (x y : A) → cond b x (cond b x y) ≡ cond b x y
+twice true x y = refl
+twice false x y = refl
+
+-- of handles none of which is stale the first is live
+first-live : {N : Numbers} (L : Machine N) (h : Handle) (hs : List Handle) → any-stale L (h ∷ hs) ≡ false → Lives (L .state .length) (L .lent .serial) h
+first-live L h hs e = lives-told _ _ h (not-false (live L h) (or-false (not (live L h)) _ e .0))
+
+-- behind a model of m nodes, with j own nodes
+module _ {N : Numbers} (L : Machine N) (m j : ℕ) (nodes : L .state .length ≡ m + j) where
+  -- a live handle's node stands before the one to be recorded
+  placed : (o : Operand N) (os : List (Operand N)) → any-stale L (handles (o ∷ os)) ≡ false → Placed m j (meant m o) × (any-stale L (handles os) ≡ false)
+  placed (plain x) os e = (tt, e)
+  placed (node h) os e =
+      let l = first-live L h (handles os) e in
+      (by-test (Placed m j) (ltb (h .index) m) (ltb-true _ _) (λ t. omega (arith, ltb-false (h .index) m t)), or-false (not (live L h)) _ e .1)
+
+  -- and so do those of the operands that an operation uses
+  both-placed : (alone : Bool) (left right : Operand N) → any-stale L (handles (cond alone (left ∷ []) (left ∷ right ∷ []))) ≡ false
+      → Placed m j (meant m left) × Placed m j (cond alone (number (N .nought)) (meant m right))
+  both-placed true left right e = (placed left [] e .0, tt)
+  both-placed false left right e = let l = placed left (right ∷ []) e in (l .0, placed right [] (l .1) .0)
+
+  -- an operation that is not refused
+  proper : (o : Operation N) → let c = operate (o .number) (o .left) (o .right) (o .supplied) in Accepted c L (step c L) → Proper m j (deed m o)
+  proper o a =
+      let both = both-placed (one-sided (o .number)) (o .left) (o .right) (a .passed .all-live) in
+      record { operation = not-false _ (a .passed .known); left = both .0; right = both .1; unused = twice (one-sided (o .number)) _ _ }
+
+-- ---- operations one after another
+
+-- what these operations tell from place j on, and where they lead
+pub record Told {N : Numbers} (A : Arrays N) (m first k j : ℕ) (os : List (Operation N)) (L : Machine N) : Type 0 where
+  pub deeds : AllProper m j (map (deed m) os)
+  pub serials : Spared (k + j) (length os)
+  pub stands : Stands A m first k (j + length os) (after (recordings os) L)
+
+module _ {N : Numbers} {A : Arrays N} {m first k : ℕ} where
+  pub told : (os : List (Operation N)) (j : ℕ) (L : Machine N) → Stands A m first k j L → Unrefused (run (recordings os) L .0) → Told A m first k j os L
+  told [] j L s u = record { deeds = tt; serials = λ h. omega arith; stands = rw add-zero s }
+  told (o ∷ os) j L s (u, us) =
+      let a = accepted (operate (o .number) (o .left) (o .right) (o .supplied)) L u in
+      let rest = told os (suc j) _ (recorded s (o .number) (o .left) (o .right) (o .supplied) a) us in
+      let spent : L .state .next ≡ last-serial → ⊥ = eqb-false _ _ (rw (s .active) at (a .passed .serial)) in
+      record {
+        deeds = (proper L m j (s .counted .nodes) o a, rest .deeds);
+        serials = λ h. omega (arith, rest .serials (omega arith));
+        stands = rw (add-suc, ← suc-add) (rest .stands);
+      }
+
+-- ---- revolutions one after another
+
+module _ {N : Numbers} {A : Arrays N} {m first : ℕ} where
+  -- each revolution has room and a root of its own, and none is given the last serial
+  told-turns : (rs : List (Revolution N)) (k : ℕ) (L : Machine N) → Stands A m first k 0 L → AtOrPast m rs → Unrefused (run (turned rs) L .0)
+      → AllTurns (capacity A) m (map (turn m) rs) × Spared k (recorded-by (map (turn m) rs))
+  told-turns [] k L s roots u = (tt, λ h. omega arith)
+  told-turns (r ∷ rs) k L s (root, roots) u =
+      let os = r .operations in
+      let back = pass (backward-to-mark (node (r .root))) in
+      let (first-part, (p, (w, rest))) = unrefused-parts (recordings os) (back ∷ move rewind-to-mark ∷ turned rs) L u in
+      let t = told os 0 L s first-part in
+      let L₁ = after (recordings os) L in
+      let s₁ = t .stands in
+      let a = accepted back L₁ p in
+      let alive = first-live L₁ (r .root) [] (a .passed .all-live) in
+      let n = length-map os (deed m) in
+      let more = told-turns rs _ _ (rewound (walked s₁ _ a) (accepted (move rewind-to-mark) (step back L₁ .1) w)) roots rest in
+      ((record { deeds = t .deeds; room = omega arith; root = omega arith }, more .0), λ h. omega (arith, more .1 (omega (arith, t .serials (omega arith)))))
+
+-- ---- the session
+
+-- with no reads among its calls
+fitting : {N : Numbers} (s : Session N) (M : Machine N) → AtOrPast (length (s .model)) (s .revolutions) → Unrefused (run (calls s) M .0) → Fitting M (meaning s)
+fitting s M roots (u, us) =
+    let os = s .model in
+    let a = accepted (move start) M u in
+    let M₁ = step (move start) M .1 in
+    let (model, (v, (w, rest))) = unrefused-parts (recordings os) (move set-mark ∷ clear ∷ turned (s .revolutions) ++ (pass propagate-mark-to-start ∷ [])) M₁ us in
+    let t = told os 0 M₁ (started M a) model in
+    let M₂ = after (recordings os) M₁ in
+    let M₃ = step (move set-mark) M₂ .1 in
+    let b = accepted clear M₃ w in
+    let s₃ = marked (rw zero-add at (t .stands)) (accepted (move set-mark) M₂ v) in
+    let f = fit M₃ (b .passed .shape) in
+    let more = told-turns (s .revolutions) _ _ (cleared s₃ b) roots (unrefused-parts (turned (s .revolutions)) (pass propagate-mark-to-start ∷ []) (step clear M₃ .1) rest .0) in
+    let n = length-map os (deed 0) in
+    record {
+      state = a .passed .shape;
+      arrays = omega arith;
+      model = t .deeds;
+      room = omega arith;
+      turns = rw n (more .0);
+      serials = λ h. omega (arith, more .1 (omega (arith, t .serials (omega arith))));
+    }
+
+-- with reads among them
+pub plays-fitting : {N : Numbers} (s : Session N) (cs : List (Call N)) (M : Machine N) → Plays s cs M → Fitting M (meaning s)
+plays-fitting s cs M p = fitting s M (p .roots) (rw (p .session) at (reads-left-out cs M (p .unrefused) .unrefused))
