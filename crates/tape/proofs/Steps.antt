@@ -92,7 +92,7 @@ pub record Edges {N : Numbers} (n k : ℕ) (es : List (Edge N)) : Type 0 where
   pub few : length es ≤ k
   pub below : all (map (λ e. ltb (e .child) n) es) ≡ true
 
-or-false : (a b : Bool) → a || b ≡ false → (a ≡ false) × (b ≡ false)
+pub or-false : (a b : Bool) → a || b ≡ false → (a ≡ false) × (b ≡ false)
 or-false true b e = (e, absurd (true≢false e))
 or-false false b e = (refl, e)
 
