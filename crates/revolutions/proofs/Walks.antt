@@ -40,7 +40,7 @@ module _ {A : Type 0} (d : A) (f : A → A) where
   alter-first : (s t : List A) (c : ℕ) → c < length s → alter d f (s ++ t) c ≡ alter d f s c ++ t
   alter-first s t c h = rw (List·getD-append s t d c h, set-append-left s t c _ h)
 
-  alter-second : (s t : List A) (i : ℕ) → alter d f (s ++ t) (length s + i) ≡ s ++ alter d f t i
+  pub alter-second : (s t : List A) (i : ℕ) → alter d f (s ++ t) (length s + i) ≡ s ++ alter d f t i
   alter-second [] t i = rw zero-add
   alter-second (y ∷ s) t i = rw (suc-add, alter-second s t i)
 
@@ -111,15 +111,16 @@ module _ {N : Numbers} (m : ℕ) where
 
 -- ---- a walk past something put in
 
-module _ {N : Numbers} (m : ℕ) (put : List (N .Number)) where
-  abbrev raise : List (Edge N) → List (Edge N)
-  raise es = map (λ e. record { child = raised m (length put) (e .child); weight = e .weight }) es
+-- a node's edges, k places up
+abbrev pub raise : {N : Numbers} → ℕ → ℕ → List (Edge N) → List (Edge N)
+raise m k es = map (λ e. record { child = raised m k (e .child); weight = e .weight }) es
 
-  push-insert : (a : N .Number) (es : List (Edge N)) (s : List (N .Number)) → m ≤ length s → push a (raise es) (insert m put s) ≡ insert m put (push a es s)
+module _ {N : Numbers} (m : ℕ) (put : List (N .Number)) where
+  push-insert : (a : N .Number) (es : List (Edge N)) (s : List (N .Number)) → m ≤ length s → push a (raise m (length put) es) (insert m put s) ≡ insert m put (push a es s)
   push-insert a [] s l = refl
   push-insert a (e ∷ es) s l =
       let f : N .Number → N .Number = λ y. N .plus y (N .times (e .weight) a) in
-      ap (push a (raise es)) (alter-insert (N .blank) m put s l f (e .child)) ∙ push-insert a es (alter (N .blank) f s (e .child)) (omega (arith, length-set s (e .child) (f (getD s (e .child) (N .blank)))))
+      ap (push a (raise m (length put) es)) (alter-insert (N .blank) m put s l f (e .child)) ∙ push-insert a es (alter (N .blank) f s (e .child)) (omega (arith, length-set s (e .child) (f (getD s (e .child) (N .blank)))))
 
   pub walk-insert : (i : ℕ) (ns : List (List (Edge N))) (s : List (N .Number)) → m ≤ i → m ≤ length s → walk (i + length put) (up m (length put) ns) (insert m put s) ≡ insert m put (walk i ns s)
   walk-insert i [] s h l = refl
