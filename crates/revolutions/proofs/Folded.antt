@@ -23,7 +23,7 @@ module _ {N : Numbers} where
   length-seeds m [] = refl
   length-seeds m (p ∷ ps) = simp (length-append, length-map, length-seeds m ps, length-seed p)
 
-  pub length-folded : (p : Part N) (s : List (N .Number)) → length (folded p s) ≡ length s
+  length-folded : (p : Part N) (s : List (N .Number)) → length (folded p s) ≡ length s
   length-folded p s = length-take-le (length s) _ (omega (arith, length-walk (length s) (p .nodes) (s ++ seed p), length-append s (seed p)))
 
   length-all : (ps : List (Part N)) (s : List (N .Number)) → length (folded-all ps s) ≡ length s
@@ -63,6 +63,7 @@ module _ {N : Numbers} where
 
 -- ---- trading places
 
+-- one of two tests fails
 by-false : {P : Type 0} (a b : Bool) → (a ≡ false → P) → (b ≡ false → P) → a && b ≡ false → P
 by-false true b f g e = g e
 by-false false b f g e = f refl
@@ -95,6 +96,7 @@ module _ {N : Numbers} where
       let after-q = length-folded q s in
       folded-alike q (folded p s) s j after-p (omega arith) (folded-aside p s j h none) ∙ sym (folded-aside p (folded q s) j (omega arith) none)
 
+  -- two that go to no common node of the model
   swapped : (p q : Part N) (s : List (N .Number)) → ((j : ℕ) → j < length s → (goes j (p .nodes) && goes j (q .nodes)) ≡ false) → folded q (folded p s) ≡ folded p (folded q s)
   swapped p q s apart =
       let p-q : length (folded q (folded p s)) ≡ length s = length-folded q (folded p s) ∙ length-folded p s in

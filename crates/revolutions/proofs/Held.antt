@@ -1,4 +1,4 @@
--- What a tape holds, as lists: the values, adjoints and edges of its nodes. Each call that is not refused changes the lists as it says; no call that was refused, and no shape, is thought of here.
+-- What an active tape holds, as lists: the values, adjoints and edges of its nodes, and how each call that is not refused changes them. By the stores of `written`, which leave what is below the length.
 use Prim.Native.Nat.{ℕ, zero, suc, _+_, _-_, _≤_, _<_}
 use native.Mathlib.Nat.{zero-add}
 use native.Mathlib.Numerals.{add-one}
@@ -19,6 +19,7 @@ use Rattle.tape.proofs.Steps.{Ready, last-or-below}
 
 -- ---- lists over a range
 
+-- two functions that agree below the end of a range
 map-alike : {A : Type 0} (f g : ℕ → A) (i k : ℕ) → ((j : ℕ) → j < i + k → f j ≡ g j) → map f (indexes i k) ≡ map g (indexes i k)
 map-alike f g i zero each = refl
 map-alike f g i (suc k) each = rw (each i (omega arith), map-alike f g (suc i) k (λ j h. each j (omega arith)))
@@ -34,7 +35,7 @@ module _ {A : Type 0} (f : ℕ → A) (n : ℕ) (low high : List A) (e : map f (
   first : length (map f (indexes 0 (length low))) ≡ length low
   first = rw (length-map, length-indexes)
 
-  pub low-part : map f (indexes 0 (length low)) ≡ low
+  low-part : map f (indexes 0 (length low)) ≡ low
   low-part = sym (take-at _ _ (length low) first) ∙ ap (take (length low)) both ∙ take-at low high _ refl
 
   pub high-part : map f (indexes (length low) (n - length low)) ≡ high
@@ -44,6 +45,7 @@ module _ {A : Type 0} (f : ℕ → A) (n : ℕ) (low high : List A) (e : map f (
 
 -- ---- what is held
 
+-- The lists stand at the nodes below the length, and the mark and the flag are as said
 pub record Holds {N : Numbers} (M : Machine N) (mark : ℕ) (values adjoints : List (N .Number)) (edges : List (List (Edge N))) : Type 0 where
   pub active : M .state .active ≡ true
   pub marked : M .state .mark ≡ mark
@@ -55,6 +57,7 @@ pub record Holds {N : Numbers} (M : Machine N) (mark : ℕ) (values adjoints : L
   -- no node counts more than its own two slots, so that what the next one writes does not change its edges
   pub few : (i : ℕ) → i < M .state .length → getD (M .lent .count) i 0 ≤ 2
 
+-- right after a start there is nothing
 pub started : {N : Numbers} (t : Tape) (A : Arrays N) → Holds (machine (moved start t) A) 0 [] [] []
 started t A = record { active = refl; marked = refl; long = refl; as-long = refl; value = refl; adjoint = refl; edge = refl; few = λ i h. absurd (omega arith) }
 
@@ -74,6 +77,7 @@ module _ {N : Numbers} (M : Machine N) (v : N .Number) (es : List (Edge N)) (r :
       let A = M .lent in
       rw (getD-set-same (A .count) n (length es) 0 (omega arith)) (edges-stored (A .child) (A .partial) (slot n) es (omega arith) (omega arith))
 
+  -- and how many they are
   count-kept : (i : ℕ) → i < M .state .length → getD (M .lent .count) i 0 ≤ 2 → getD (written M v es .lent .count) i 0 ≤ 2
   count-kept i h own = rw (getD-set-other (M .lent .count) (M .state .length) i (length es) 0 (λ e. omega arith)) own
 
@@ -101,6 +105,7 @@ module _ {N : Numbers} (M : Machine N) (v : N .Number) (es : List (Edge N)) (r :
 -- ---- the other calls
 
 module _ {N : Numbers} (M : Machine N) {mark : ℕ} {values adjoints : List (N .Number)} {edges : List (List (Edge N))} (h : Holds M mark values adjoints edges) where
+  -- the mark is the length
   pub mark-set : Holds (machine (moved set-mark (M .state)) (M .lent)) (length values) values adjoints edges
   mark-set = record { active = h .active; marked = sym (h .long); long = h .long; as-long = h .as-long; value = h .value; adjoint = h .adjoint; edge = h .edge; few = h .few }
 

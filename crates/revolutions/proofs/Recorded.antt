@@ -70,6 +70,7 @@ called M o =
     record { value = s .value; edges = edges (o .left) (o .right) s }
 
 module _ {N : Numbers} (M : Machine N) (b k : ℕ) (models owns adjoints : List (N .Number)) (ess : List (List (Edge N))) (long : length models ≡ b) (held : Holds M k (models ++ owns) adjoints ess) where
+  -- a live operand is worth what it means
   same-worth : (o : Operand N) (os : List (Operand N)) → any-stale M (handles (o ∷ os)) ≡ false → (worth M o ≡ worth-meant models owns (meant b o)) × (any-stale M (handles os) ≡ false)
   same-worth (plain x) os all-live = (refl, all-live)
   same-worth (node h) os all-live =
@@ -77,6 +78,7 @@ module _ {N : Numbers} (M : Machine N) (b k : ℕ) (models owns adjoints : List 
       let l = lives-told (M .state .length) (M .lent .serial) h (not-false (live M h) (both .0)) in
       (sym (getD-take (M .state .length) (M .lent .value) (h .index) (N .blank) (l .below)) ∙ ap (λ s. getD s (h .index) (N .blank)) (held .value) ∙ same-value N b models owns h long, both .1)
 
+  -- the node that a call writes is the one that its deed makes, by whether the right operand is used
   same-node : (o : Operation N) → any-stale M (handles (used (o .number) (o .left) (o .right))) ≡ false → called M o ≡ made b models owns (deed b o)
   same-node o = sides (one-sided (o .number)) refl where
     sides : (t : Bool) → one-sided (o .number) ≡ t → any-stale M (handles (cond t (o .left ∷ []) (o .left ∷ o .right ∷ []))) ≡ false
@@ -105,6 +107,7 @@ module _ {N : Numbers} (M : Machine N) (b k : ℕ) (models owns adjoints : List 
 -- ---- all of them
 
 module _ {N : Numbers} (b k : ℕ) (models : List (N .Number)) (long : length models ≡ b) where
+  -- with the values of the model before b and those of the own nodes behind it
   pub recorded : (os : List (Operation N)) (M : Machine N) (owns adjoints : List (N .Number)) (ess : List (List (Edge N))) → Holds M k (models ++ owns) adjoints ess → Unrefused (run (recordings os) M .0)
       → let ns = nodes b models owns (map (deed b) os) in
       Holds (after (recordings os) M) k (models ++ (owns ++ map (λ n. n .value) ns)) (adjoints ++ replicate (length os) (N .nought)) (ess ++ map (λ n. n .edges) ns)

@@ -30,11 +30,13 @@ module _ {N : Numbers} (m k : ℕ) where
       by-test (λ (d : Meant N). edge (m + k) d (some p) ≡ raise m k (edge m d (some p))) (ltb (h .index) m) (λ t. rw t)
       (λ _. let j = h .index - m in let past : m ≤ m + j = omega arith in let up : m + k + j ≡ m + j + k = omega arith in rw (le-ltb (m + j) m past, up))
 
+  -- so do those of the right operand, used or not
   right-raised : (t : Bool) (o : Operand N) (p : Option (N .Number)) → let d = cond t (number (N .nought)) (meant m o) in edge (m + k) d p ≡ raise m k (edge m d p)
   right-raised true o none = refl
   right-raised true o (some p) = refl
   right-raised false o p = edge-raised o p
 
+  -- a node's edges, and the edges of all nodes
   both-raised : (o : Operation N) (s : Row N) → let d = deed m o in edge (m + k) (d .left) (s .left) ++ edge (m + k) (d .right) (s .right) ≡ raise m k (edge m (d .left) (s .left) ++ edge m (d .right) (s .right))
   both-raised o s = rw (edge-raised (o .left) (s .left), right-raised (one-sided (o .number)) (o .right) (s .right), map-append)
 
@@ -60,6 +62,7 @@ module _ {N : Numbers} (models : List (N .Number)) where
       let k : length (placed m (parts rs)) ≡ length later = ap length (sym (behind-placed rs)) ∙ length-map later (λ n. n .edges) in
       rw (map-append, behind-placed rs, k, nodes-raised m (length later) models [] (r .operations))
 
+  -- and so are the seeds
   seeds-placed : (ts : List (Turn N)) → seeds ts ≡ all-seeds (map (part (length models) models) ts)
   seeds-placed [] = refl
   seeds-placed (t ∷ ts) = rw (length-map, length-nodes, seeds-placed ts)
@@ -69,7 +72,7 @@ summed-long : {N : Numbers} (s : Session N) → summed (meaning s) ≡ long-tape
 summed-long s =
     let first = nodes 0 [] [] (meaning s .model) in
     let models = map (λ n. n .value) first in
-    on-lists .sum (map (λ n. n .edges) first) (map (part (length first) models) (meaning s .turns))
+    on-lists .sum (map (λ n. n .edges) first) (map (part (length models) models) (meaning s .turns))
     ∙ rw (length-map first (λ n. n .edges), ← as-many s, ← length-map first (λ n. n .value), map-append, behind-placed models (s .revolutions), seeds-placed models (map (turn (length models)) (s .revolutions)))
 
 pub demand-3 : Demand3

@@ -25,11 +25,10 @@ use Rattle.revolutions.proofs.Recorded.{recorded}
 use Rattle.revolutions.proofs.Runs.{after-append, unrefused-parts, Left, reads-left-out}
 use Rattle.revolutions.proofs.Walks.{length-walk, take-walk, alter-second}
 
+-- a node for each deed
 pub length-nodes : {N : Numbers} (b : ℕ) (models owns : List (N .Number)) (ds : List (Deed N)) → length (nodes b models owns ds) ≡ length ds
 length-nodes b models owns [] = refl
 length-nodes b models owns (d ∷ ds) = ap suc (length-nodes b models _ ds)
-
--- ---- one revolution
 
 -- a turn's nodes, by their edges, right behind a model of m nodes with these values
 abbrev pub part : {N : Numbers} → ℕ → List (N .Number) → Turn N → Part N
@@ -86,6 +85,7 @@ module _ {N : Numbers} (m : ℕ) (models : List (N .Number)) (edges : List (List
       let back : Holds L m (models ++ owns) (walk m (p .nodes) (s ++ seed p)) (edges ++ p .nodes) = rw (root-set m s p (h .index) k e long past root) at (to-mark M m (models ++ owns) (s ++ replicate k (N .nought)) edges (p .nodes) h l held u) in
       rw (accepted (move rewind-to-mark) L w .carries, e) (rewound L m models owns (walk m (p .nodes) (s ++ seed p)) edges (p .nodes) v l back)
 
+  -- revolution by revolution
   all-turned : (rs : List (Revolution N)) (M : Machine N) (s : List (N .Number)) → Holds M m models s edges → AtOrPast m rs → Unrefused (run (turned rs) M .0)
       → Holds (after (turned rs) M) m models (folded-all (map (part m models) (map (turn m) rs)) s) edges
   all-turned [] M s held past u = held
@@ -107,7 +107,8 @@ module _ {N : Numbers} (m : ℕ) (models : List (N .Number)) (edges : List (List
 abbrev pub summed : {N : Numbers} → Meaning N → List (N .Number)
 summed meant =
     let first = nodes 0 [] [] (meant .model) in
-    one-by-one (map (λ n. n .edges) first) (map (part (length first) (map (λ n. n .value) first)) (meant .turns))
+    let values = map (λ n. n .value) first in
+    one-by-one (map (λ n. n .edges) first) (map (part (length values) values) (meant .turns))
 
 -- after clearing, every adjoint of the tape is zero
 wiped : {N : Numbers} (M : Machine N) (mark : ℕ) (values adjoints : List (N .Number)) (edges : List (List (Edge N))) → Holds M mark values adjoints edges → step clear M .0 .number ≡ 0
@@ -133,9 +134,11 @@ module _ {N : Numbers} (s : Session N) where
   abbrev m : ℕ
   m = length (s .model)
 
+  -- a node for each operation
   pub as-many : length first ≡ m
   as-many = length-nodes 0 [] [] (map (deed 0) (s .model)) ∙ length-map (s .model) (deed 0)
 
+  -- start, model, mark, clearing, revolutions and the last pass, one after the other
   played : (M : Machine N) → AtOrPast m (s .revolutions) → Unrefused (run (calls s) M .0) → take m (after (calls s) M .lent .adjoint) ≡ summed (meaning s)
   played M past (starts, u) =
       let os = recordings (s .model) in
@@ -158,8 +161,9 @@ module _ {N : Numbers} (s : Session N) where
       let h₅ = to-start M₄ m models _ edges nodes values h₄ walks in
       let end : after (calls s) M ≡ step (pass propagate-mark-to-start) M₄ .1 = after-append os (move set-mark ∷ clear ∷ rs ++ last) M₀ ∙ after-append rs last M₃ in
       let size : step (pass propagate-mark-to-start) M₄ .1 .state .length ≡ m = sym (h₅ .long) ∙ values in
-      rw (end, nodes, as-many) (rw size at (h₅ .adjoint))
+      rw (end, nodes, values) (rw size at (h₅ .adjoint))
 
+-- with reads and listings between
 pub by-turns : {N : Numbers} (s : Session N) (cs : List (Call N)) (M : Machine N) → Plays s cs M → model-adjoints s cs M ≡ summed (meaning s)
 by-turns s cs M p =
     let left : Left (calls s) M (after cs M) = rw (p .session) at (reads-left-out cs M (p .unrefused)) in
