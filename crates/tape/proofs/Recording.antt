@@ -44,7 +44,7 @@ module _ {A : Type 0} where
 
 module _ {N : Numbers} where
   -- those that were stored there
-  edges-stored : (cs : List ℕ) (ps : List (N .Number)) (s : ℕ) (es : List (Edge N)) → s + length es ≤ length cs → s + length es ≤ length ps
+  pub edges-stored : (cs : List ℕ) (ps : List (N .Number)) (s : ℕ) (es : List (Edge N)) → s + length es ≤ length cs → s + length es ≤ length ps
       → edges-from (sets cs s (map (λ e. e .child) es)) (sets ps s (map (λ e. e .weight) es)) s (length es) ≡ es
   edges-stored cs ps s [] h k = refl
   edges-stored cs ps s (e ∷ es) h k =
@@ -54,7 +54,7 @@ module _ {N : Numbers} where
       rw (child, weight, rest)
 
   -- those before them
-  edges-before : (cs : List ℕ) (ps : List (N .Number)) (s : ℕ) (vs : List ℕ) (ws : List (N .Number)) (i k : ℕ) → i + k ≤ s → edges-from {N = N} (sets cs s vs) (sets ps s ws) i k ≡ edges-from cs ps i k
+  pub edges-before : (cs : List ℕ) (ps : List (N .Number)) (s : ℕ) (vs : List ℕ) (ws : List (N .Number)) (i k : ℕ) → i + k ≤ s → edges-from {N = N} (sets cs s vs) (sets ps s ws) i k ≡ edges-from cs ps i k
   edges-before cs ps s vs ws i zero h = refl
   edges-before cs ps s vs ws i (suc k) h = rw (getD-before cs s vs i 0 (omega arith), getD-before ps s ws i (N .blank) (omega arith), edges-before cs ps s vs ws (suc i) k (omega arith))
 

@@ -67,7 +67,7 @@ pub record Ready {N : Numbers} (M : Machine N) : Type 0 where
   pub fit : Fit M
   pub room : M .state .length < capacity (M .lent)
 
-ready : {N : Numbers} (M : Machine N) → fits true M ≡ true → eqb (M .state .length) (capacity (M .lent)) ≡ false → Ready M
+pub ready : {N : Numbers} (M : Machine N) → fits true M ≡ true → eqb (M .state .length) (capacity (M .lent)) ≡ false → Ready M
 ready M shape room = let f : Fit M = fit M shape in record { fit = f; room = omega (arith, eqb-false (M .state .length) (capacity (M .lent)) room) }
 
 -- ---- live handles
@@ -112,13 +112,13 @@ module _ {N : Numbers} (M : Machine N) where
   no-partial (plain x) = refl
   no-partial (node h) = refl
 
-  both-ok : (b : Bool) (left right : Operand N) (p q : Option (N .Number)) → (b ≡ true → q ≡ none) → any-stale M (handles (cond b (left ∷ []) (left ∷ right ∷ []))) ≡ false → Edges (M .state .length) 2 (edge left p ++ edge right q)
+  pub both-ok : (b : Bool) (left right : Operand N) (p q : Option (N .Number)) → (b ≡ true → q ≡ none) → any-stale M (handles (cond b (left ∷ []) (left ∷ right ∷ []))) ≡ false → Edges (M .state .length) 2 (edge left p ++ edge right q)
   both-ok true left right p q alone e = rw (alone refl, no-partial right) (edge-ok left p [] [] 1 e (λ _. no-edges 1))
   both-ok false left right p q alone e =
       edge-ok left p (right ∷ []) (edge right q) 1 e (λ e′. rw append-nil at (edge-ok right q [] [] 0 e′ (λ _. no-edges 0)))
 
 -- the operations that use the left operand alone have no right partial
-alone : {N : Numbers} (op : ℕ) (l r : N .Number) (g : Given N) → one-sided op ≡ true → apply op l r g .right ≡ none
+pub alone : {N : Numbers} (op : ℕ) (l r : N .Number) (g : Given N) → one-sided op ≡ true → apply op l r g .right ≡ none
 alone op l r g = by-or _ _ (by-or _ _ (λ t. rw (eqb-true op 0 t)) (λ t. rw (eqb-true op 7 t))) (λ t. rw (eqb-true op 8 t))
 
 -- ---- what a step leaves

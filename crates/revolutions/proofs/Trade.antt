@@ -1,0 +1,33 @@
+-- Two neighbours among the revolutions trade places. Both sessions' adjoints are those of their revolutions one by one, and on lists the two may be swapped.
+use Prim.Native.Nat.{ℕ}
+use mathlib.Core.Path.{_≡_, refl, sym, ap, _∙_}
+use mathlib.Core.List.{List, [], _∷_, map, map-append}
+use lib.ListN.{length, length-map}
+use Rattle.tape.specs.Numbers.{Numbers}
+use Rattle.tape.specs.Machine.{Machine}
+use Rattle.tape.specs.Calls.{Call}
+use Rattle.revolutions.specs.Revolutions.{Session, Deed, Turn, meaning, Node, nodes, Plays, model-adjoints, reach, Apart, with-both}
+use Rattle.revolutions.specs.Folded.{Part, goes}
+use Rattle.revolutions.proofs.Folded.{on-lists}
+use Rattle.revolutions.proofs.Turns.{part, summed, by-turns}
+
+-- edges that go to a node of the model, told of nodes and of their edges alone
+goes-reach : {N : Numbers} (i : ℕ) (ns : List (Node N)) → goes i (map (λ n. n .edges) ns) ≡ reach i ns
+goes-reach i [] = refl
+goes-reach i (n ∷ ns) = rw (goes-reach i ns)
+
+-- what two meanings sum to that differ in the order of p and q
+traded : {N : Numbers} (model : List (Deed N)) (before later : List (Turn N)) (p q : Turn N) → Apart model p q → summed (with-both model before p q later) ≡ summed (with-both model before q p later)
+traded {N} model before later p q apart =
+    let first = nodes 0 [] [] model in
+    let values = map (λ n. n .value) first in
+    let m = length values in
+    let parts : List (Turn N) → List (Part N) = map (part m values) in
+    let same : length (map (λ n. n .edges) first) ≡ m = simp length-map in
+    rw (map-append, map-append) (on-lists .trade (map (λ n. n .edges) first) (parts before) (parts later) (part m values p) (part m values q) (λ i h. rw (goes-reach i (nodes m values [] (p .deeds)), goes-reach i (nodes m values [] (q .deeds))) (apart i (rw same at h))))
+
+pub same-adjoints : {N : Numbers} (s t : Session N) (cs ds : List (Call N)) (M L : Machine N) (model : List (Deed N)) (before later : List (Turn N)) (p q : Turn N) → Plays s cs M → Plays t ds L
+    → meaning s ≡ with-both model before p q later → meaning t ≡ with-both model before q p later
+    → Apart model p q → model-adjoints s cs M ≡ model-adjoints t ds L
+same-adjoints s t cs ds M L model before later p q plays played e f apart =
+    by-turns s cs M plays ∙ ap summed e ∙ traded model before later p q apart ∙ sym (by-turns t ds L played ∙ ap summed f)
