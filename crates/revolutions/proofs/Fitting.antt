@@ -10,7 +10,8 @@ use Rattle.tape.specs.Machine.{Machine, machine, capacity, fits}
 use Rattle.tape.specs.Operations.{known, one-sided}
 use Rattle.tape.specs.Calls.{start, moved, last-serial}
 use Rattle.tape.proofs.Tests.{Fit}
-use Rattle.revolutions.specs.Revolutions.{Meant, in-model, own, number, Deed, Turn, Meaning, with-both}
+use Rattle.revolutions.specs.Revolutions.{Meant, in-model, own, number, Deed, Turn, Meaning}
+use Rattle.revolutions.specs.Trading.{with-both}
 
 -- an operand of the deed at place j, behind a model of m nodes, stands before it
 abbrev pub Placed : {N : Numbers} → ℕ → ℕ → Meant N → Type 0

@@ -18,7 +18,8 @@ use Rattle.tape.specs.declared.state.Tape.{Tape}
 use Rattle.tape.proofs.Passes.{Accepted, carried-number, range-sound}
 use Rattle.tape.proofs.Steps.{Passed, lives-so}
 use Rattle.tape.proofs.Tests.{Fit, refits, state-fit-so}
-use Rattle.revolutions.specs.Revolutions.{Meant, in-model, own, number, Deed, Turn, Meaning, recordings, turned, calls, Another}
+use Rattle.revolutions.specs.Revolutions.{Meant, in-model, own, number, Deed, Turn, Meaning, recordings, turned, calls}
+use Rattle.revolutions.specs.Trading.{Another}
 use Rattle.revolutions.proofs.Runs.{unrefused-append}
 use Rattle.revolutions.proofs.Fitting.{Placed, Proper, AllProper, AllTurns, recorded-by, Spared, Fitting}
 use Rattle.revolutions.proofs.Standing.{Stands, stands-fit, started, recorded, marked, cleared, walked, rewound}

@@ -2,7 +2,8 @@
 use Rattle.revolutions.specs.Answered.{Demand1}
 use Rattle.revolutions.specs.Examples.{Example, Overlapping, ApartHere}
 use Rattle.revolutions.specs.Folded.{OnLists}
-use Rattle.revolutions.specs.Revolutions.{Demand3, TradingPlaces}
+use Rattle.revolutions.specs.Revolutions.{Demand3}
+use Rattle.revolutions.specs.Trading.{TradingPlaces}
 use Rattle.revolutions.specs.Table.{ProvedTable}
 use Rattle.revolutions.proofs.Answered as answered
 use Rattle.revolutions.proofs.Examples as examples

@@ -12,7 +12,7 @@ use Rattle.tape.specs.Numbers.{Numbers}
 use Rattle.tape.specs.Machine.{Arrays, Machine, machine, capacity, slot}
 use Rattle.tape.specs.Handles.{Operand, plain, node, worth}
 use Rattle.tape.specs.Operations.{Given, apply}
-use Rattle.tape.specs.Walk.{Edge, push, walk, edges-at}
+use Rattle.tape.specs.Walk.{Edge, edges-at}
 use Rattle.tape.specs.Answers.{Answer}
 use Rattle.tape.specs.Calls.{Call, Pass, move, start, set-mark, rewind-to-mark, operate, clear, pass, edges, with-adjoints, written, Plan, plan, range, seeded, walked as passed-back, carried, step}
 use Rattle.tape.specs.declared.state.Tape.{Tape}
@@ -20,6 +20,7 @@ use Rattle.tape.proofs.Passes.{Accepted}
 use Rattle.tape.proofs.Recording.{SoundNodes, sound-kept}
 use Rattle.tape.proofs.Steps.{effect, last-or-below}
 use Rattle.tape.proofs.Tests.{by-test, Fit, fit, state-fit}
+use Rattle.revolutions.proofs.Walks.{length-walk}
 
 -- ---- lengths
 
@@ -32,15 +33,7 @@ pub record Alike {N : Numbers} (A B : Arrays N) : Type 0 where
   pub child : length (B .child) ≡ length (A .child)
   pub partial : length (B .partial) ≡ length (A .partial)
 
--- a walk leaves the number of adjoints, and so does the root's being set to one
-length-push : {N : Numbers} (a : N .Number) (es : List (Edge N)) (s : List (N .Number)) → length (push a es s) ≡ length s
-length-push a [] s = refl
-length-push a (e ∷ es) s = length-push a es _ ∙ length-set s _ _
-
-length-walk : {N : Numbers} (i : ℕ) (nodes : List (List (Edge N))) (s : List (N .Number)) → length (walk i nodes s) ≡ length s
-length-walk i [] s = refl
-length-walk i (es ∷ above) s = length-push _ es (walk (suc i) above s) ∙ length-walk (suc i) above s
-
+-- a pass leaves the number of adjoints
 length-seeded : {N : Numbers} (os : List (Operand N)) (s : List (N .Number)) → length (seeded os s) ≡ length s
 length-seeded [] s = refl
 length-seeded (plain x ∷ os) s = length-seeded os s

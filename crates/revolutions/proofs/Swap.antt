@@ -4,7 +4,8 @@ use mathlib.Core.List.{List}
 use Rattle.tape.specs.Numbers.{Numbers}
 use Rattle.tape.specs.Machine.{Machine}
 use Rattle.tape.specs.Calls.{Call}
-use Rattle.revolutions.specs.Revolutions.{Session, Deed, Turn, meaning, with-both, Plays, Another}
+use Rattle.revolutions.specs.Revolutions.{Session, Deed, Turn, meaning, Plays}
+use Rattle.revolutions.specs.Trading.{with-both, Another}
 use Rattle.revolutions.proofs.Fitting.{exchanged}
 use Rattle.revolutions.proofs.Told.{plays-fitting}
 use Rattle.revolutions.proofs.Played.{another}

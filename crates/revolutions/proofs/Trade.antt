@@ -6,7 +6,8 @@ use lib.ListN.{length, length-map}
 use Rattle.tape.specs.Numbers.{Numbers}
 use Rattle.tape.specs.Machine.{Machine}
 use Rattle.tape.specs.Calls.{Call}
-use Rattle.revolutions.specs.Revolutions.{Session, Deed, Turn, meaning, Node, nodes, Plays, model-adjoints, reach, Apart, with-both}
+use Rattle.revolutions.specs.Revolutions.{Session, Deed, Turn, meaning, Node, nodes, Plays, model-adjoints}
+use Rattle.revolutions.specs.Trading.{reach, Apart, with-both}
 use Rattle.revolutions.specs.Folded.{Part, goes}
 use Rattle.revolutions.proofs.Folded.{on-lists}
 use Rattle.revolutions.proofs.Turns.{part, summed, by-turns}

@@ -11,7 +11,8 @@ use Rattle.tape.specs.Handles.{Operand, plain, node}
 use Rattle.tape.specs.Calls.{Call, adjoint-of, value-of, list}
 use Rattle.tape.specs.Kept.{fresh}
 use Rattle.tape.specs.Rows.{float, sevens, handle, given, node-at}
-use Rattle.revolutions.specs.Revolutions.{Operation, Revolution, Session, Meaning, turn, meaning, calls, long-tape, Plays, model-adjoints, Apart}
+use Rattle.revolutions.specs.Revolutions.{Operation, Revolution, Session, Meaning, turn, meaning, calls, long-tape, Plays, model-adjoints}
+use Rattle.revolutions.specs.Trading.{Apart}
 
 -- ---- the session
 

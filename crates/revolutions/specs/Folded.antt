@@ -7,7 +7,7 @@ use lib.Dec.{ltb}
 use lib.ListN.{length, set, take, replicate}
 use Rattle.tape.specs.Numbers.{Numbers}
 use Rattle.tape.specs.Walk.{Edge, walk}
-use Rattle.revolutions.specs.Revolutions.{to}
+use Rattle.revolutions.specs.Trading.{to}
 
 -- the nodes of a revolution, standing right behind the model's, and which of them is the root
 pub record Part (N : Numbers) : Type 0 where
