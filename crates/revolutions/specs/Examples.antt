@@ -11,8 +11,8 @@ use Rattle.tape.specs.Handles.{Operand, plain, node}
 use Rattle.tape.specs.Calls.{Call, adjoint-of, value-of, list}
 use Rattle.tape.specs.Kept.{fresh}
 use Rattle.tape.specs.Rows.{float, sevens, handle, given, node-at}
-use Rattle.revolutions.specs.Revolutions.{Operation, Revolution, Session, Meaning, turn, meaning, calls, long-tape, Plays, model-adjoints}
-use Rattle.revolutions.specs.Trading.{Apart}
+use Rattle.revolutions.specs.Revolutions.{Operation, Revolution, Session, Turn, Meaning, turn, meaning, calls, long-tape, Plays, model-adjoints}
+use Rattle.revolutions.specs.Trading.{Apart, with-both}
 
 -- ---- the session
 
@@ -29,6 +29,10 @@ revolution i w k = record {
   operations = record { number = 8; left = node-at i; right = plain (float 0); supplied = given (float 5) w w } ∷ operation 1 (node (handle 2 k)) (plain (float 1)) ∷ [];
   root = handle 3 (k + 1);
 }
+
+-- what it means, whatever the serials
+abbrev pub back : ℕ → Float → Turn floats
+back i w = turn 2 (revolution i w 0)
 
 abbrev pub high : Float
 high = float (2 ^ 53)
@@ -76,11 +80,14 @@ pub record Example : Type 0 where
   pub not-in-recording-order : Meets in-recording-order → ⊥
   pub not-idle : Meets idle → ⊥
 
--- neighbours that share a node of the model: to trade their places changes bits
+-- The last two share a node of the model, and the bits change where they trade places: `Apart` is needed
 pub record Overlapping : Type 0 where
   pub plays : Plays swapped (calls swapped) before
   pub adjoints : model-adjoints swapped (calls swapped) before ≡ float 18 ∷ float 3 ∷ []
+  pub means : meaning three ≡ with-both (meaning three .model) (back 1 (float 3) ∷ []) (back 1 high) (back 1 (neg high)) []
+  pub swapped-means : meaning swapped ≡ with-both (meaning three .model) (back 1 (float 3) ∷ []) (back 1 (neg high)) (back 1 high) []
+  pub not-apart : Apart (meaning three .model) (back 1 high) (back 1 (neg high)) → ⊥
 
--- neighbours that share none: one passes back to x, the other to x * x
+-- one that passes back to x and one that passes back to x * x share none
 abbrev pub ApartHere : Type 0
-ApartHere = Apart (meaning three .model) (turn 2 (revolution 0 (float 3) 3)) (turn 2 (revolution 1 high 5))
+ApartHere = Apart (meaning three .model) (back 0 (float 3)) (back 1 high)
