@@ -1,13 +1,12 @@
 -- Each function of the forward numbers answers what its rule gives: a float, a test, or a number that one struct alone holds.
-use Rattle.forward.specs.Number.{number1, number2, number3, number4}
 use Rattle.forward.proofs.OneToOne.{told}
 use Rattle.decided.specs.Forward.{Compared, Order1, Order2, Order3, Order4}
 use Rattle.decided.proofs.Rules.{equal, told-by}
 
-compared : Compared
+pub compared : Compared
 compared = record { of = record { same = equal } }
 
-order1 : Order1
+pub order1 : Order1
 order1 = record {
   constant = record { same = told-by (told .0) };
   var = record { same = told-by (told .0) };
@@ -47,7 +46,7 @@ order1 = record {
   partial-cmp-f64 = record { same = equal };
 }
 
-order2 : Order2
+pub order2 : Order2
 order2 = record {
   constant = record { same = told-by (told .1) };
   var = record { same = told-by (told .1) };
@@ -88,7 +87,7 @@ order2 = record {
   partial-cmp-f64 = record { same = equal };
 }
 
-order3 : Order3
+pub order3 : Order3
 order3 = record {
   constant = record { same = told-by (told .2) };
   var = record { same = told-by (told .2) };
@@ -130,7 +129,7 @@ order3 = record {
   partial-cmp-f64 = record { same = equal };
 }
 
-order4 : Order4
+pub order4 : Order4
 order4 = record {
   constant = record { same = told-by (told .3) };
   var = record { same = told-by (told .3) };

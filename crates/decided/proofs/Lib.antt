@@ -1,6 +1,8 @@
 pub mod Rules
-pub mod Tape
 pub mod Forward
+pub mod Tape
 pub mod Expr
 pub mod Dual
 pub mod Listing
+pub mod Open
+pub mod Proved

@@ -9,20 +9,21 @@ use Rattle.listing.specs.Outcome.{outcome}
 use Rattle.listing.specs.declared.listing.Listed.{Listed}
 use Rattle.listing.proofs.OneToOne.{told}
 use Rattle.decided.specs.Listing.{Listing}
-use Rattle.decided.proofs.Rules.{agree, equal}
+use Rattle.decided.proofs.Rules.{equal, told-with}
 
--- what is left of the parameters: nothing of the state and the six arrays, and the bytes
-abbrev Left : Type 0
-Left = Unit {0} × (Unit {0} × (Unit {0} × (Unit {0} × (Unit {0} × (Unit {0} × (Unit {0} × (List ℕ × Unit {0})))))))
+-- what a listing's promise says of an answer and the bytes
+abbrev says : Machine floats → Listed → List ℕ → (Answer floats × Machine floats) × List ℕ
+says M x out = (outcome x M, out)
 
-abbrev left : List ℕ → Left
-left bytes = (tt, (tt, (tt, (tt, (tt, (tt, (tt, (bytes, tt))))))))
+told-both : (M : Machine floats) (x y : Listed) (b c : List ℕ) → says M x b ≡ says M y c → (x ≡ y) × (b ≡ c)
+told-both M x y b c e = (told x y M (ap (λ o. o .0) e), ap (λ o. o .1) e)
 
-listed : {x y : Listed} {b c : List ℕ} {o : (Answer floats × Machine floats) × List ℕ} (M : Machine floats) → _≡_ {A = (Answer floats × Machine floats) × List ℕ} (outcome x M, b) o → _≡_ {A = (Answer floats × Machine floats) × List ℕ} (outcome y M, c) o → (x ≡ y) × (left b ≡ left c)
-listed M p q = let e = agree p q in (told _ _ _ (ap (λ o. o .0) e), ap (λ o. left (o .1)) e)
+-- what is left of a listing's parameters: the bytes, behind the state and the six arrays, of which nothing is
+abbrev pub bytes : List ℕ → Unit {0} × (Unit {0} × (Unit {0} × (Unit {0} × (Unit {0} × (Unit {0} × (Unit {0} × (List ℕ × Unit {0})))))))
+bytes out = (tt, (tt, (tt, (tt, (tt, (tt, (tt, (out, tt))))))))
 
 pub listing : Listing
 listing = record {
   bits-of = record { same = equal };
-  list = record { same = listed _ };
+  list = record { same = told-with (told-both _) bytes _ _ };
 }

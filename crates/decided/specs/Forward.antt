@@ -1,4 +1,4 @@
--- Every public function of crate forward, in the order of its source.
+-- Every public function of crate forward.
 use Rattle.decided.specs.Decided.{Decided}
 use Rattle.forward.proofs.comparison.Ordering as ordering
 use Rattle.forward.proofs.order1.Fwd1 as fwd1
