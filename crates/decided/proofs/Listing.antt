@@ -15,6 +15,7 @@ use Rattle.decided.proofs.Rules.{equal, told-with}
 abbrev says : Machine floats → Listed → List ℕ → (Answer floats × Machine floats) × List ℕ
 says M x out = (outcome x M, out)
 
+-- no two of them say the same
 told-both : (M : Machine floats) (x y : Listed) (b c : List ℕ) → says M x b ≡ says M y c → (x ≡ y) × (b ≡ c)
 told-both M x y b c e = (told x y M (ap (λ o. o .0) e), ap (λ o. o .1) e)
 

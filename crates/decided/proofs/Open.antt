@@ -3,8 +3,8 @@ use Prim.Native.Nat.{ℕ}
 use mathlib.Core.Path.{_≡_, refl, ap}
 use mathlib.Core.Bool.{false}
 use mathlib.Core.List.{List, [], _∷_}
-use lib.Ieee.{nan}
-use lib.ListN.{length}
+use lib.Ieee.{Float, nan, inf, fin}
+use lib.ListN.{getD}
 use native.Mathlib.Omega.{arith}
 use contract.Lifetimes.{Lfts}
 use denote.Ref.{RefT}
@@ -29,10 +29,6 @@ use Rattle.decided.proofs.Listing.{bytes}
 left-open : (T : Ended) (P : Promise T) (κs : Lfts (T .signature .lifetimes)) (a : Args (T .signature) κs) (z : Res (T .signature) κs) (ws ws′ : Lasts T κs a) → P κs a z (atExit T κs a ws) → ¬ (ws ≡ ws′) → ¬ Decided T (answer-alone T P)
 left-open T P κs a z ws ws′ kept differ d = differ (d .same {κs = κs} {a = a} {z = z} {z′ = z} {ws = ws} {ws′ = ws′} (atExit T κs a ws, kept) (atExit T κs a ws, kept) .1)
 
--- an empty list is not a list of one
-longer : {X : Type 0} {x : X} → ¬ (_≡_ {A = List X} [] (x ∷ []))
-longer e = let n : _≡_ {A = ℕ} 0 1 = ap length e in omega arith
-
 -- serial 0 is never next
 abbrev unfit : Tape
 unfit = record { length = 0; mark = 0; active = false; next = 0 }
@@ -40,22 +36,27 @@ unfit = record { length = 0; mark = 0; active = false; next = 0 }
 abbrev lifetimes : Lfts 6
 lifetimes = ([], ([], ([], ([], ([], ([], tt))))))
 
--- an array of no entry, as it is lent
-abbrev lent : {X : Type 0} → RefT (List X)
-lent = record { ptr = (0, 0); name = 0; now = [] }
+abbrev lent : {X : Type 0} → List X → RefT (List X)
+lent xs = record { ptr = (0, 0); name = 0; now = xs }
 
-abbrev empty : Arrays floats
-empty = arrays [] [] [] [] [] []
+-- one value and one adjoint, the same
+abbrev filled : Float → Arrays floats
+filled x = arrays (x ∷ []) (x ∷ []) [] [] [] []
 
--- a value and an adjoint too many
-abbrev other : Arrays floats
-other = arrays (nan ∷ []) (nan ∷ []) [] [] [] []
+-- tells a NaN from any other
+abbrev rank : Float → ℕ
+rank nan = 0
+rank (inf s) = 1
+rank (fin s m e) = 1
+
+zero-not-one : ¬ (_≡_ {A = ℕ} 0 1)
+zero-not-one e = omega arith
 
 pub all-open : Open
 unfolding step
 all-open = record {
-  six-arrays = left-open _ _ lifetimes (unfit, (lent, (lent, (lent, (lent, (lent, (lent, (0, (Number nan, (Number nan, (record { value = nan; left = nan; right = nan }, tt))))))))))) (recorded.Refused Misshapen unfit) (six-arrays _ empty) (six-arrays _ other) refl (λ e. longer (ap (λ w. w .1 .0) e));
-  adjoints = left-open _ _ lifetimes (unfit, (lent, (lent, (lent, (lent, (lent, (lent, (Number nan, tt)))))))) (passed.Refused Misshapen) (adjoints _ (machine unfit empty)) (adjoints _ (machine unfit other)) refl (λ e. longer (ap (λ w. w .1 .1 .0) e));
-  bytes = left-open _ _ ([], lifetimes) (unfit, (lent, (lent, (lent, (lent, (lent, (lent, (lent, tt)))))))) (listed.Refused Misshapen) (bytes []) (bytes (0 ∷ [])) refl (λ e. longer (ap (λ w. w .1 .1 .1 .1 .1 .1 .1 .0) e));
-  answer = λ d. let e = d .same {κs = tt} {a = tt} {z = new-tape} {z′ = unfit} {ws = tt} {ws′ = tt} (new-tape, refl) (new-tape, refl) in let n : _≡_ {A = ℕ} 1 0 = ap (λ t. t .next) (e .0) in omega arith;
+  six-arrays = left-open _ _ lifetimes (unfit, (lent (nan ∷ []), (lent (nan ∷ []), (lent [], (lent [], (lent [], (lent [], (0, (Number nan, (Number nan, (record { value = nan; left = nan; right = nan }, tt))))))))))) (recorded.Refused Misshapen unfit) (six-arrays _ (filled nan)) (six-arrays _ (filled (inf false))) refl (λ e. zero-not-one (ap (λ w. rank (getD (w .1 .0) 0 nan)) e));
+  adjoints = left-open _ _ lifetimes (unfit, (lent (nan ∷ []), (lent (nan ∷ []), (lent [], (lent [], (lent [], (lent [], (Number nan, tt)))))))) (passed.Refused Misshapen) (adjoints _ (machine unfit (filled nan))) (adjoints _ (machine unfit (filled (inf false)))) refl (λ e. zero-not-one (ap (λ w. rank (getD (w .1 .1 .0) 0 nan)) e));
+  bytes = left-open _ _ ([], lifetimes) (unfit, (lent (nan ∷ []), (lent (nan ∷ []), (lent [], (lent [], (lent [], (lent [], (lent (0 ∷ []), tt)))))))) (listed.Refused Misshapen) (bytes (0 ∷ [])) (bytes (1 ∷ [])) refl (λ e. zero-not-one (ap (λ w. getD (w .1 .1 .1 .1 .1 .1 .1 .0) 0 0) e));
+  answer = λ d. zero-not-one (ap (λ t. t .next) (d .same {κs = tt} {a = tt} {z = unfit} {z′ = new-tape} {ws = tt} {ws′ = tt} (new-tape, refl) (new-tape, refl) .0));
 }

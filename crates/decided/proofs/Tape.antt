@@ -1,4 +1,4 @@
--- A move answers the machine's step for whatever arrays the caller keeps, so for none.
+-- A lookup and what fits are given by their rules; a move answers the machine's step whatever arrays the caller keeps, so beside empty ones.
 use mathlib.Core.Path.{_≡_}
 use mathlib.Core.List.{[]}
 use Rattle.tape.specs.Numbers.{floats}
@@ -9,6 +9,7 @@ use Rattle.tape.proofs.OneToOne.{told}
 use Rattle.decided.specs.Tape.{Tape}
 use Rattle.decided.proofs.Rules.{equal, told-by}
 
+-- the rule gives what a move tells beside any arrays
 moved : {U : Type 0} {x y : Moved} {o : Arrays floats → Answer floats × Machine floats} {u : U} → ((A : Arrays floats) → outcome x A ≡ o A) → ((A : Arrays floats) → outcome y A ≡ o A) → (x ≡ y) × (u ≡ u)
 moved p q = let A : Arrays floats = arrays [] [] [] [] [] [] in told-by (λ x y. told .moves x y A) (p A) (q A)
 
