@@ -1,1 +1,1 @@
-// Every answer is decided: no code of its own, but what the promises of the other crates leave open, which is nothing, and the wrong answers that they rule out. Read specs/ and docs/PROMISES.md.
+// Every answer is decided: that the promises of the library crates leave nothing open, and which wrong answers they rule out. No code of its own; read specs/ and docs/PROMISES.md.
