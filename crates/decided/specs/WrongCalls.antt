@@ -14,7 +14,7 @@ use Rattle.tape.specs.Listing.{listing}
 use Rattle.tape.specs.Answers.{Answer, number, refused, done, told, recorded, counted}
 use Rattle.tape.specs.Calls.{Move, start, stop, set-mark, reset-mark, rewind-to-mark, rewind-to-init, move, operate, clear, pass, backward, backward-to-mark, backward-mark-to-start, propagate-to-mark, propagate-mark-to-start, value-of, adjoint-of, is-live, issued, written, with-adjoints, step}
 use Rattle.tape.specs.Kept.{fresh, after}
-use Rattle.tape.specs.Rows.{float, sevens, handle, first, node-at, leaf, four-calls}
+use Rattle.tape.specs.Rows.{float, sevens, handle, node-at, leaf, four-calls}
 use Rattle.tape.specs.declared.errors.Refusal.the-variants.{Misshapen, UnknownOperation, NotLive as Refusal·NotLive, Detached, Full, SerialsSpent, ListingTooLong}
 use Rattle.tape.specs.declared.node.Handle.{Handle}
 use Rattle.tape.specs.declared.node.Lookup.{Lookup}

@@ -17,7 +17,6 @@ use Rattle.tape.specs.Calls.{Pass as Pass′, backward, backward-to-mark, backw
 use Rattle.tape.specs.declared.errors.Refusal.{Refusal}
 use Rattle.tape.specs.declared.errors.Refusal.the-variants.{NotLive, Detached, UnsoundEdge}
 use Rattle.tape.specs.declared.node.Handle.{Handle}
-use Rattle.tape.specs.declared.node.Operand as code
 use Rattle.tape.specs.declared.node.Operand.the-variants.{Number, Node}
 use Rattle.tape.proofs.Steps.{lives-told}
 use Rattle.tape.proofs.Tests.{Fit, fit, by-test}

@@ -1,13 +1,13 @@
 -- A step is the first hit of the table of refusals, or what the call does: by induction on the table.
-use Prim.Native.Nat.{ℕ, _≤_}
+use Prim.Native.Nat.{_≤_}
 use native.Mathlib.Omega.{arith}
 use mathlib.Core.Path.{_≡_, refl, sym, ap, _∙_}
-use mathlib.Core.Bool.{Bool, true, false, cond}
+use mathlib.Core.Bool.{Bool, true, false}
 use mathlib.Core.List.{List, [], _∷_}
-use mathlib.Core.Option.{Option, none, some, Option·some-injective}
+use mathlib.Core.Option.{Option, none, some}
 use Rattle.tape.specs.Numbers.{Numbers}
 use Rattle.tape.specs.Machine.{Machine}
-use Rattle.tape.specs.Answers.{Answer, answer, number}
+use Rattle.tape.specs.Answers.{Answer, number}
 use Rattle.tape.specs.Answers as answers
 use Rattle.tape.specs.Calls.{Call, asked, refusals, unless, carried, step}
 use Rattle.tape.specs.declared.errors.Refusal.{Refusal}

@@ -1,12 +1,12 @@
 -- Demand 1: every call, on any machine, ends in an answer or in one refusal of document 01's list. Each public call of the code is a `step` of this machine, by its promise.
-use Prim.Native.Nat.{ℕ, _≤_}
+use Prim.Native.Nat.{_≤_}
 use mathlib.Core.Path.{_≡_}
 use mathlib.Core.Bool.{Bool, cond}
 use mathlib.Core.List.{List, [], _∷_}
 use mathlib.Core.Option.{Option, none, some}
 use Rattle.tape.specs.Numbers.{Numbers}
 use Rattle.tape.specs.Machine.{Machine}
-use Rattle.tape.specs.Answers.{Answer, answer, number}
+use Rattle.tape.specs.Answers.{answer, number}
 use Rattle.tape.specs.Calls.{Call, asked, refusals, carried, step}
 use Rattle.tape.specs.declared.errors.Refusal.{Refusal}
 
