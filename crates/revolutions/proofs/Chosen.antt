@@ -24,7 +24,7 @@ operand m first k (own i) = node (record { index = m + i; serial = k + i })
 operand m first k (number x) = plain x
 
 abbrev pub operation : {N : Numbers} → ℕ → ℕ → ℕ → Deed N → Operation N
-operation m first k d = record { number = d .operation; left = operand m first k (d .left); right = operand m first k (d .right); supplied = d .supplied }
+operation m first k d = record { operation = d .operation; left = operand m first k (d .left); right = operand m first k (d .right); supplied = d .supplied }
 
 abbrev pub revolution : {N : Numbers} → ℕ → ℕ → ℕ → Turn N → Revolution N
 revolution m first k t = record { operations = map (operation m first k) (t .deeds); root = record { index = m + t .root; serial = k + t .root } }
@@ -44,7 +44,7 @@ session M meant =
 
 recordings-read-nothing : {N : Numbers} (os : List (Operation N)) (cs : List (Call N)) → without-reads (recordings os ++ cs) ≡ recordings os ++ without-reads cs
 recordings-read-nothing [] cs = refl
-recordings-read-nothing (o ∷ os) cs = λ i. operate (o .number) (o .left) (o .right) (o .supplied) ∷ recordings-read-nothing os cs i
+recordings-read-nothing (o ∷ os) cs = λ i. operate (o .operation) (o .left) (o .right) (o .supplied) ∷ recordings-read-nothing os cs i
 
 turns-read-nothing : {N : Numbers} (rs : List (Revolution N)) (cs : List (Call N)) → without-reads (turned rs ++ cs) ≡ turned rs ++ without-reads cs
 turns-read-nothing [] cs = refl

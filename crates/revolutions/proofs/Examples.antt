@@ -6,24 +6,19 @@ use mathlib.Core.Bool.{true, true≢false, and-eq-true-iff}
 use mathlib.Core.List.{List, [], _∷_, map}
 use borrow.Author.Tests.{eqb-true}
 use lib.Dec.{eqb}
-use lib.Ieee.{Float, binary64, ofInt, ofBits, toBits, add, sub, mul, div, neg, lt, le, nan}
+use lib.Ieee.{Float, ofInt, ofBits, toBits, add, sub, mul, div, neg, lt, le}
 use lib.ListN.{getD}
 use Rattle.tape.specs.Numbers.{Numbers}
 use Rattle.tape.specs.Machine.{all}
 use Rattle.tape.specs.Answers.{Answer}
 use Rattle.tape.specs.Calls.{step, run}
 use Rattle.tape.specs.Passes.{Unrefused}
-use Rattle.tape.specs.Rows.{float}
 use Rattle.revolutions.specs.Revolutions.{meaning, calls}
-use Rattle.revolutions.specs.Examples.{three, three-calls, before, swapped, first-only, in-recording-order, idle, Example, Overlapping, ApartHere}
+use Rattle.revolutions.specs.Examples.{three, three-calls, before, swapped, first-only, in-recording-order, idle, bits, Example, Overlapping, ApartHere}
 
--- the bits of the first
-abbrev first-bits : List Float → ℕ
-first-bits xs = toBits binary64 (getD xs 0 nan)
-
--- a rule whose first adjoint has other bits
-unlike : (xs ys : List Float) → xs ≡ float 24 ∷ float 4 ∷ [] → (first-bits ys ≡ first-bits (float 24 ∷ []) → ⊥) → xs ≡ ys → ⊥
-unlike xs ys computed other e = other (ap first-bits (sym e ∙ computed))
+-- two lists whose first numbers have other bits
+unlike : (xs ys : List Float) (k l : ℕ) → getD (bits xs) 0 0 ≡ k → getD (bits ys) 0 0 ≡ l → ¬ (k ≡ l) → ¬ (xs ≡ ys)
+unlike xs ys k l x y other e = other (sym x ∙ ap (λ zs. getD (bits zs) 0 0) e ∙ y)
 
 -- each number is 0
 none-refused : {N : Numbers} (answers : List (Answer N)) → all (map (λ a. eqb (a .number) 0) answers) ≡ true → Unrefused answers
@@ -36,14 +31,14 @@ example = record {
   plays = record { session = refl; unrefused = none-refused (run three-calls before .0) refl; roots = (omega arith, (omega arith, (omega arith, tt))) };
   adjoints = refl;
   long = refl;
-  not-first-only = unlike _ (first-only (meaning three)) refl (λ e. omega (arith, e));
-  not-in-recording-order = unlike _ (in-recording-order (meaning three)) refl (λ e. omega (arith, e));
-  not-idle = unlike _ (idle (meaning three)) refl (λ e. omega (arith, e));
+  not-first-only = unlike _ (first-only (meaning three)) _ _ refl refl (λ e. omega arith);
+  not-in-recording-order = unlike _ (in-recording-order (meaning three)) _ _ refl refl (λ e. omega arith);
+  not-idle = unlike _ (idle (meaning three)) _ _ refl refl (λ e. omega arith);
 }
 
 pub overlapping : Overlapping
 unfolding step add sub mul div neg lt le ofInt ofBits toBits
-overlapping = record { plays = record { session = refl; unrefused = none-refused (run (calls swapped) before .0) refl; roots = (omega arith, (omega arith, (omega arith, tt))) }; adjoints = refl; means = refl; swapped-means = refl; not-apart = λ apart. true≢false (apart 1 (omega arith)) }
+overlapping = record { plays = record { session = refl; unrefused = none-refused (run (calls swapped) before .0) refl; roots = (omega arith, (omega arith, (omega arith, tt))) }; adjoints = refl; means = refl; swapped-means = refl; changed = unlike _ _ _ _ refl refl (λ e. omega arith); not-apart = λ apart. true≢false (apart 1 (omega arith)) }
 
 pub apart-here : ApartHere
 unfolding add sub mul div neg lt le ofInt ofBits

@@ -10,7 +10,7 @@ use lib.ListN.{length, getD, length-map}
 use Rattle.tape.specs.Numbers.{Numbers}
 use Rattle.tape.specs.Machine.{Arrays, Machine, machine, capacity, fits}
 use Rattle.tape.specs.Handles.{Operand, live, handles, any-plain}
-use Rattle.tape.specs.Operations.{known, one-sided}
+use Rattle.tape.specs.Operations.{one-sided}
 use Rattle.tape.specs.Calls.{Call, Move, move, start, set-mark, rewind-to-mark, operate, clear, Pass, pass, backward-to-mark, propagate-mark-to-start, plan, any-stale, last-serial, step, run}
 use Rattle.tape.specs.Kept.{after}
 use Rattle.tape.specs.Passes.{Unrefused}
@@ -19,7 +19,7 @@ use Rattle.tape.proofs.Passes.{Accepted, carried-number, range-sound}
 use Rattle.tape.proofs.Steps.{Passed, lives-so}
 use Rattle.tape.proofs.Tests.{Fit, refits, state-fit-so}
 use Rattle.revolutions.specs.Revolutions.{Meant, in-model, own, number, Deed, Turn, Meaning, recordings, turned, calls}
-use Rattle.revolutions.specs.Trading.{Another}
+use Rattle.revolutions.specs.Trading.{Playable}
 use Rattle.revolutions.proofs.Runs.{unrefused-append}
 use Rattle.revolutions.proofs.Fitting.{Placed, Proper, AllProper, AllTurns, recorded-by, Spared, Fitting}
 use Rattle.revolutions.proofs.Standing.{Stands, stands-fit, started, recorded, marked, cleared, walked, rewound}
@@ -136,7 +136,7 @@ module _ {N : Numbers} (M : Machine N) (meant : Meaning N) (f : Fitting M meant)
       let rest = revolutions-play (f .arrays) m k (k + m) (meant .turns) _ (cleared s₂ c) (f .turns) (λ h. omega (arith, f .serials (omega arith))) in
       (answers a, unrefused-append (recordings (map (operation 0 k k) (meant .model))) _ _ unrefused (answers b, (answers c, rest)))
 
-  pub another : Another M meant
+  pub another : Playable M meant
   another =
       record {
         session = session M meant;

@@ -55,7 +55,7 @@ by-rows {N} b l r m s t e right = rw (e, same-edge N b l (t .left), right)
 
 -- the row of an operation, given the values of its operands
 abbrev row-of : {N : Numbers} → Operation N → N .Number → N .Number → Row N
-row-of o x y = apply (o .number) x y (o .supplied)
+row-of o x y = apply (o .operation) x y (o .supplied)
 
 -- the node that a deed makes
 abbrev made : {N : Numbers} → ℕ → List (N .Number) → List (N .Number) → Deed N → Node N
@@ -79,27 +79,27 @@ module _ {N : Numbers} (M : Machine N) (b k : ℕ) (models owns adjoints : List 
       (sym (getD-take (M .state .length) (M .lent .value) (h .index) (N .blank) (l .below)) ∙ ap (λ s. getD s (h .index) (N .blank)) (held .value) ∙ same-value N b models owns h long, both .1)
 
   -- the node that a call writes is the one that its deed makes, by whether the right operand is used
-  same-node : (o : Operation N) → any-stale M (handles (used (o .number) (o .left) (o .right))) ≡ false → called M o ≡ made b models owns (deed b o)
-  same-node o = sides (one-sided (o .number)) refl where
-    sides : (t : Bool) → one-sided (o .number) ≡ t → any-stale M (handles (cond t (o .left ∷ []) (o .left ∷ o .right ∷ []))) ≡ false
-        → called M o ≡ made b models owns (record { operation = o .number; left = meant b (o .left); right = cond t (number (N .nought)) (meant b (o .right)); supplied = o .supplied })
+  same-node : (o : Operation N) → any-stale M (handles (used (o .operation) (o .left) (o .right))) ≡ false → called M o ≡ made b models owns (deed b o)
+  same-node o = sides (one-sided (o .operation)) refl where
+    sides : (t : Bool) → one-sided (o .operation) ≡ t → any-stale M (handles (cond t (o .left ∷ []) (o .left ∷ o .right ∷ []))) ≡ false
+        → called M o ≡ made b models owns (record { operation = o .operation; left = meant b (o .left); right = cond t (number (N .nought)) (meant b (o .right)); supplied = o .supplied })
     sides true t all-live =
         let l = same-worth (o .left) [] all-live .0 in
         let x = worth-meant models owns (meant b (o .left)) in
-        let idle : row-of o x (N .nought) .right ≡ none = alone (o .number) x (N .nought) (o .supplied) t in
-        by-rows b (o .left) (o .right) (number (N .nought)) _ _ (ap (λ x. row-of o x (worth M (o .right))) l ∙ right-idle (o .number) x _ (N .nought) (o .supplied) t) (subst (λ p. edge (o .right) p ≡ edge-meant b (number (N .nought)) p) (sym idle) (same-edge N b (o .right) none))
+        let idle : row-of o x (N .nought) .right ≡ none = alone (o .operation) x (N .nought) (o .supplied) t in
+        by-rows b (o .left) (o .right) (number (N .nought)) _ _ (ap (λ x. row-of o x (worth M (o .right))) l ∙ right-idle (o .operation) x _ (N .nought) (o .supplied) t) (subst (λ p. edge (o .right) p ≡ edge-meant b (number (N .nought)) p) (sym idle) (same-edge N b (o .right) none))
     sides false t all-live =
         let (l, rest) = same-worth (o .left) (o .right ∷ []) all-live in
         let r = same-worth (o .right) [] rest .0 in
         by-rows b (o .left) (o .right) (meant b (o .right)) _ _ (ap (λ x. row-of o x (worth M (o .right))) l ∙ ap (row-of o (worth-meant models owns (meant b (o .left)))) r) (same-edge N b (o .right) _)
 
   -- one operation more
-  one-more : (o : Operation N) (x : Answer N × Machine N) → Accepted (operate (o .number) (o .left) (o .right) (o .supplied)) M x
+  one-more : (o : Operation N) (x : Answer N × Machine N) → Accepted (operate (o .operation) (o .left) (o .right) (o .supplied)) M x
       → let n = made b models owns (deed b o) in Holds (x .1) k (models ++ owns ++ (n .value ∷ [])) (adjoints ++ (N .nought ∷ [])) (ess ++ (n .edges ∷ []))
   one-more o x a =
       let s = row-of o (worth M (o .left)) (worth M (o .right)) in
       let r : Ready M = ready M (a .passed .shape) (rw (held .active) at (a .passed .room)) in
-      let few = both-ok M (one-sided (o .number)) (o .left) (o .right) (s .left) (s .right) (alone (o .number) (worth M (o .left)) (worth M (o .right)) (o .supplied)) (a .passed .all-live) .few in
+      let few = both-ok M (one-sided (o .operation)) (o .left) (o .right) (s .left) (s .right) (alone (o .operation) (worth M (o .left)) (worth M (o .right)) (o .supplied)) (a .passed .all-live) .few in
       let Grown : Node N → Answer N × Machine N → Type 0 = λ n y. Holds (y .1) k (models ++ owns ++ (n .value ∷ [])) (adjoints ++ (N .nought ∷ [])) (ess ++ (n .edges ∷ [])) in
       subst (λ n. Grown n x) (same-node o (a .passed .all-live))
       (subst (Grown (called M o)) (sym (a .carries)) (by-test (Grown (called M o)) (M .state .active) (λ _. noted M (s .value) (edges (o .left) (o .right) s) r few held) (λ f. absurd (true≢false (sym (held .active) ∙ f)))))
@@ -113,7 +113,7 @@ module _ {N : Numbers} (b k : ℕ) (models : List (N .Number)) (long : length mo
       Holds (after (recordings os) M) k (models ++ (owns ++ map (λ n. n .value) ns)) (adjoints ++ replicate (length os) (N .nought)) (ess ++ map (λ n. n .edges) ns)
   recorded [] M owns adjoints ess held u = simp append-nil held
   recorded (o ∷ os) M owns adjoints ess held (u, us) =
-      let c = operate (o .number) (o .left) (o .right) (o .supplied) in
+      let c = operate (o .operation) (o .left) (o .right) (o .supplied) in
       let n = made b models owns (deed b o) in
       let more = one-more M b k models owns adjoints ess long held o (step c M) (accepted c M u) in
       simp append-assoc at (recorded os (step c M .1) (owns ++ (n .value ∷ [])) (adjoints ++ (N .nought ∷ [])) (ess ++ (n .edges ∷ [])) (rw append-assoc at more) us)

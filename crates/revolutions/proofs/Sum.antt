@@ -38,7 +38,7 @@ module _ {N : Numbers} (m k : ℕ) where
 
   -- a node's edges, and the edges of all nodes
   both-raised : (o : Operation N) (s : Row N) → let d = deed m o in edge (m + k) (d .left) (s .left) ++ edge (m + k) (d .right) (s .right) ≡ raise m k (edge m (d .left) (s .left) ++ edge m (d .right) (s .right))
-  both-raised o s = rw (edge-raised (o .left) (s .left), right-raised (one-sided (o .number)) (o .right) (s .right), map-append)
+  both-raised o s = rw (edge-raised (o .left) (s .left), right-raised (one-sided (o .operation)) (o .right) (s .right), map-append)
 
   nodes-raised : (models owns : List (N .Number)) (os : List (Operation N)) → map (λ n. n .edges) (nodes (m + k) models owns (map (deed m) os)) ≡ up m k (map (λ n. n .edges) (nodes m models owns (map (deed m) os)))
   nodes-raised models owns [] = refl

@@ -11,7 +11,7 @@ use lib.ListN.{length, length-map}
 use Rattle.tape.specs.Numbers.{Numbers}
 use Rattle.tape.specs.Machine.{Arrays, Machine, capacity}
 use Rattle.tape.specs.Handles.{Operand, plain, node, live, handles}
-use Rattle.tape.specs.Operations.{known, one-sided}
+use Rattle.tape.specs.Operations.{one-sided}
 use Rattle.tape.specs.Calls.{Call, move, start, set-mark, rewind-to-mark, operate, clear, pass, backward-to-mark, propagate-mark-to-start, any-stale, last-serial, step, run}
 use Rattle.tape.specs.Kept.{after}
 use Rattle.tape.specs.Passes.{Unrefused}
@@ -51,10 +51,10 @@ module _ {N : Numbers} (L : Machine N) (m j : ℕ) (nodes : L .state .length ≡
   both-placed false left right e = let l = placed left (right ∷ []) e in (l .0, placed right [] (l .1) .0)
 
   -- an operation that is not refused
-  proper : (o : Operation N) → let c = operate (o .number) (o .left) (o .right) (o .supplied) in Accepted c L (step c L) → Proper m j (deed m o)
+  proper : (o : Operation N) → let c = operate (o .operation) (o .left) (o .right) (o .supplied) in Accepted c L (step c L) → Proper m j (deed m o)
   proper o a =
-      let both = both-placed (one-sided (o .number)) (o .left) (o .right) (a .passed .all-live) in
-      record { operation = not-false _ (a .passed .known); left = both .0; right = both .1; unused = twice (one-sided (o .number)) _ _ }
+      let both = both-placed (one-sided (o .operation)) (o .left) (o .right) (a .passed .all-live) in
+      record { operation = not-false _ (a .passed .known); left = both .0; right = both .1; unused = twice (one-sided (o .operation)) _ _ }
 
 -- ---- operations one after another
 
@@ -68,8 +68,8 @@ module _ {N : Numbers} {A : Arrays N} {m first k : ℕ} where
   pub told : (os : List (Operation N)) (j : ℕ) (L : Machine N) → Stands A m first k j L → Unrefused (run (recordings os) L .0) → Told A m first k j os L
   told [] j L s u = record { deeds = tt; serials = λ h. omega arith; stands = rw add-zero s }
   told (o ∷ os) j L s (u, us) =
-      let a = accepted (operate (o .number) (o .left) (o .right) (o .supplied)) L u in
-      let rest = told os (suc j) _ (recorded s (o .number) (o .left) (o .right) (o .supplied) a) us in
+      let a = accepted (operate (o .operation) (o .left) (o .right) (o .supplied)) L u in
+      let rest = told os (suc j) _ (recorded s (o .operation) (o .left) (o .right) (o .supplied) a) us in
       let spent : L .state .next ≡ last-serial → ⊥ = eqb-false _ _ (rw (s .active) at (a .passed .serial)) in
       record {
         deeds = (proper L m j (s .counted .nodes) o a, rest .deeds);

@@ -6,16 +6,11 @@ use lib.ListN.{length, length-map}
 use Rattle.tape.specs.Numbers.{Numbers}
 use Rattle.tape.specs.Machine.{Machine}
 use Rattle.tape.specs.Calls.{Call}
-use Rattle.revolutions.specs.Revolutions.{Session, Deed, Turn, meaning, Node, nodes, Plays, model-adjoints}
-use Rattle.revolutions.specs.Trading.{reach, Apart, with-both}
-use Rattle.revolutions.specs.Folded.{Part, goes}
+use Rattle.revolutions.specs.Revolutions.{Session, Deed, Turn, meaning, nodes, Plays, model-adjoints}
+use Rattle.revolutions.specs.Trading.{Apart, with-both}
+use Rattle.revolutions.specs.Folded.{Part}
 use Rattle.revolutions.proofs.Folded.{on-lists}
 use Rattle.revolutions.proofs.Turns.{part, summed, by-turns}
-
--- edges that go to a node of the model, told of nodes and of their edges alone
-goes-reach : {N : Numbers} (i : ℕ) (ns : List (Node N)) → goes i (map (λ n. n .edges) ns) ≡ reach i ns
-goes-reach i [] = refl
-goes-reach i (n ∷ ns) = rw (goes-reach i ns)
 
 -- what two meanings sum to that differ in the order of p and q
 traded : {N : Numbers} (model : List (Deed N)) (before later : List (Turn N)) (p q : Turn N) → Apart model p q → summed (with-both model before p q later) ≡ summed (with-both model before q p later)
@@ -25,7 +20,7 @@ traded {N} model before later p q apart =
     let m = length values in
     let parts : List (Turn N) → List (Part N) = map (part m values) in
     let same : length (map (λ n. n .edges) first) ≡ m = simp length-map in
-    rw (map-append, map-append) (on-lists .trade (map (λ n. n .edges) first) (parts before) (parts later) (part m values p) (part m values q) (λ i h. rw (goes-reach i (nodes m values [] (p .deeds)), goes-reach i (nodes m values [] (q .deeds))) (apart i (rw same at h))))
+    rw (map-append, map-append) (on-lists .trade (map (λ n. n .edges) first) (parts before) (parts later) (part m values p) (part m values q) (λ i h. apart i (rw same at h)))
 
 pub same-adjoints : {N : Numbers} (s t : Session N) (cs ds : List (Call N)) (M L : Machine N) (model : List (Deed N)) (before later : List (Turn N)) (p q : Turn N) → Plays s cs M → Plays t ds L
     → meaning s ≡ with-both model before p q later → meaning t ≡ with-both model before q p later

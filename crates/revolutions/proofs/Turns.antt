@@ -9,7 +9,7 @@ use borrow.Author.Tests.{not-false}
 use lib.ListN.{length, set, take, drop, replicate, length-map, length-set, length-replicate}
 use lib.Seq.{take-at, take-set-lt}
 use Rattle.tape.specs.Numbers.{Numbers}
-use Rattle.tape.specs.Machine.{Machine, machine}
+use Rattle.tape.specs.Machine.{Machine}
 use Rattle.tape.specs.Handles.{node}
 use Rattle.tape.specs.Walk.{Edge, walk, edges-at}
 use Rattle.tape.specs.Calls.{move, start, set-mark, rewind-to-mark, Call, clear, Pass, pass, plan, range, seeded, backward-to-mark, propagate-mark-to-start, step, run}

@@ -13,8 +13,8 @@ use lib.Seq.{length-take-le, set-out, getD-set-other, take-set-le, take-set-lt, 
 use Rattle.tape.specs.Numbers.{Numbers}
 use Rattle.tape.specs.Walk.{Edge, push, walk}
 use Rattle.tape.proofs.Steps.{or-false}
-use Rattle.revolutions.specs.Trading.{to}
-use Rattle.revolutions.specs.Folded.{up, goes}
+use Rattle.revolutions.specs.Trading.{to, goes}
+use Rattle.revolutions.specs.Folded.{up}
 
 -- ---- one place of a list
 

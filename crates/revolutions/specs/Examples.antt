@@ -2,8 +2,8 @@
 -- The revolutions pass 3, 2^53 and -2^53 back to one node of the model, so that the order of the three sums shows: (0 + 3) + 2^53 is 2^53 + 4 in floats, and less 2^53 it is 4.
 use Prim.Native.Nat.{ℕ, _+_, _^_}
 use mathlib.Core.Path.{_≡_}
-use mathlib.Core.List.{List, [], _∷_, _++_, reverse}
-use lib.Ieee.{Float, neg}
+use mathlib.Core.List.{List, [], _∷_, _++_, map, reverse}
+use lib.Ieee.{Float, binary64, toBits, neg}
 use lib.ListN.{take, drop, replicate}
 use Rattle.tape.specs.Numbers.{floats}
 use Rattle.tape.specs.Machine.{Machine}
@@ -17,17 +17,25 @@ use Rattle.revolutions.specs.Trading.{Apart, with-both}
 -- ---- the session
 
 abbrev pub operation : ℕ → Operand floats → Operand floats → Operation floats
-operation op left right = record { number = op; left = left; right = right; supplied = given (float 0) (float 0) (float 0) }
+operation op left right = record { operation = op; left = left; right = right; supplied = given (float 0) (float 0) (float 0) }
+
+-- where an operation does not use its right operand: a handle that is not live
+abbrev pub unused : Operand floats
+unused = node (handle 9 9)
 
 -- x = 3, and x * x
 abbrev pub model : List (Operation floats)
-model = operation 0 (plain (float 3)) (plain (float 0)) ∷ operation 3 (node-at 0) (node-at 0) ∷ []
+model = operation 0 (plain (float 3)) unused ∷ operation 3 (node-at 0) (node-at 0) ∷ []
 
--- on node i of the model: a value with supplied partial w, plus 1, which is the root. The serials of its two nodes are k and k + 1
+-- On node i of the model: its value put on the tape again; a value of 5 with supplied partial w; that plus 1, which is the root; and past the root its product with the first. The serials of the four nodes begin at k
 abbrev pub revolution : ℕ → Float → ℕ → Revolution floats
 revolution i w k = record {
-  operations = record { number = 8; left = node-at i; right = plain (float 0); supplied = given (float 5) w w } ∷ operation 1 (node (handle 2 k)) (plain (float 1)) ∷ [];
-  root = handle 3 (k + 1);
+  operations = operation 0 (node-at i) unused
+      ∷ record { operation = 8; left = node-at i; right = unused; supplied = given (float 5) w w }
+      ∷ operation 1 (node (handle 3 (k + 1))) (plain (float 1))
+      ∷ operation 3 (node (handle 4 (k + 2))) (node (handle 2 k))
+      ∷ [];
+  root = handle 4 (k + 2);
 }
 
 -- what it means, whatever the serials
@@ -38,19 +46,19 @@ abbrev pub high : Float
 high = float (2 ^ 53)
 
 abbrev pub three : Session floats
-three = record { model = model; revolutions = revolution 1 (float 3) 3 ∷ revolution 1 high 5 ∷ revolution 1 (neg high) 7 ∷ [] }
+three = record { model = model; revolutions = revolution 1 (float 3) 3 ∷ revolution 1 high 7 ∷ revolution 1 (neg high) 11 ∷ [] }
 
--- with reads between: x * x's adjoint after the first revolution, and at the end a listing
+-- with reads between: x * x's adjoint after the first revolution, and at the end its value and a listing
 abbrev pub three-calls : List (Call floats)
-three-calls = take 9 (calls three) ++ (adjoint-of (node-at 1) ∷ drop 9 (calls three)) ++ (value-of (node-at 1) ∷ list 1000 ∷ [])
+three-calls = take 11 (calls three) ++ (adjoint-of (node-at 1) ∷ drop 11 (calls three)) ++ (value-of (node-at 1) ∷ list 1000 ∷ [])
 
--- four nodes' room, all sevens
+-- six nodes' room, all sevens
 abbrev pub before : Machine floats
-before = fresh (sevens 4)
+before = fresh (sevens 6)
 
 -- the last two revolutions in the other order
 abbrev pub swapped : Session floats
-swapped = record { model = model; revolutions = revolution 1 (float 3) 3 ∷ revolution 1 (neg high) 5 ∷ revolution 1 high 7 ∷ [] }
+swapped = record { model = model; revolutions = revolution 1 (float 3) 3 ∷ revolution 1 (neg high) 7 ∷ revolution 1 high 11 ∷ [] }
 
 -- ---- rules that are not the long tape's
 
@@ -67,25 +75,30 @@ idle meant = replicate 2 (float 0)
 
 -- ---- what is proved
 
+abbrev pub bits : List Float → List ℕ
+bits = map (toBits binary64)
+
 -- the session's model adjoints are what a rule gives
 abbrev pub Meets : (Meaning floats → List Float) → Type 0
 Meets rule = model-adjoints three three-calls before ≡ rule (meaning three)
 
+-- the adjoint of x is 24 and that of x * x is 4, by the calls and by the long tape
 pub record Example : Type 0 where
   pub plays : Plays three three-calls before
-  pub adjoints : model-adjoints three three-calls before ≡ float 24 ∷ float 4 ∷ []
-  pub long : long-tape (meaning three) ≡ float 24 ∷ float 4 ∷ []
+  pub adjoints : bits (model-adjoints three three-calls before) ≡ 0x4038_0000_0000_0000 ∷ 0x4010_0000_0000_0000 ∷ []
+  pub long : bits (long-tape (meaning three)) ≡ 0x4038_0000_0000_0000 ∷ 0x4010_0000_0000_0000 ∷ []
   -- these rules are not met
   pub not-first-only : Meets first-only → ⊥
   pub not-in-recording-order : Meets in-recording-order → ⊥
   pub not-idle : Meets idle → ⊥
 
--- The last two share a node of the model, and the bits change where they trade places: `Apart` is needed
+-- The last two share a node of the model, and where they trade places the adjoints are 18 and 3: `Apart` is needed
 pub record Overlapping : Type 0 where
   pub plays : Plays swapped (calls swapped) before
-  pub adjoints : model-adjoints swapped (calls swapped) before ≡ float 18 ∷ float 3 ∷ []
+  pub adjoints : bits (model-adjoints swapped (calls swapped) before) ≡ 0x4032_0000_0000_0000 ∷ 0x4008_0000_0000_0000 ∷ []
   pub means : meaning three ≡ with-both (meaning three .model) (back 1 (float 3) ∷ []) (back 1 high) (back 1 (neg high)) []
   pub swapped-means : meaning swapped ≡ with-both (meaning three .model) (back 1 (float 3) ∷ []) (back 1 (neg high)) (back 1 high) []
+  pub changed : model-adjoints three three-calls before ≡ model-adjoints swapped (calls swapped) before → ⊥
   pub not-apart : Apart (meaning three .model) (back 1 high) (back 1 (neg high)) → ⊥
 
 -- one that passes back to x and one that passes back to x * x share none

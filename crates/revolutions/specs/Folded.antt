@@ -1,13 +1,13 @@
 -- Demand 3 on lists alone, with no calls and no arrays: nodes are given by their edges, and gradients are passed back by the walk. Over any numbers; no law of them is assumed.
 use Prim.Native.Nat.{ℕ, _+_, _<_}
 use mathlib.Core.Path.{_≡_}
-use mathlib.Core.Bool.{Bool, false, _&&_, _||_, cond}
+use mathlib.Core.Bool.{false, _&&_, cond}
 use mathlib.Core.List.{List, [], _∷_, _++_, map}
 use lib.Dec.{ltb}
 use lib.ListN.{length, set, take, replicate}
 use Rattle.tape.specs.Numbers.{Numbers}
 use Rattle.tape.specs.Walk.{Edge, walk}
-use Rattle.revolutions.specs.Trading.{to}
+use Rattle.revolutions.specs.Trading.{goes}
 
 -- the nodes of a revolution, standing right behind the model's, and which of them is the root
 pub record Part (N : Numbers) : Type 0 where
@@ -52,11 +52,6 @@ abbrev pub at-once : {N : Numbers} → List (List (Edge N)) → List (Part N) �
 at-once {N} model ps = let m = length model in take m (walk 0 (model ++ placed m ps) (replicate m (N .nought) ++ all-seeds ps))
 
 -- ---- what is proved
-
--- does an edge of these nodes go to node i
-abbrev pub goes : {N : Numbers} → ℕ → List (List (Edge N)) → Bool
-goes i [] = false
-goes i (es ∷ above) = to i es || goes i above
 
 -- Proved in proofs/Folded.antt
 pub record OnLists : Type 1 where

@@ -20,7 +20,7 @@ use Rattle.tape.specs.declared.node.Handle.{Handle}
 
 -- an operation as it is called: its number, its operands, what the host supplies
 pub record Operation (N : Numbers) : Type 0 where
-  pub number : ℕ
+  pub operation : ℕ
   pub left : Operand N
   pub right : Operand N
   pub supplied : Given N
@@ -34,7 +34,7 @@ pub record Session (N : Numbers) : Type 0 where
   pub revolutions : List (Revolution N)
 
 abbrev pub recordings : {N : Numbers} → List (Operation N) → List (Call N)
-recordings os = map (λ o. operate (o .number) (o .left) (o .right) (o .supplied)) os
+recordings os = map (λ o. operate (o .operation) (o .left) (o .right) (o .supplied)) os
 
 -- each revolution: record it, pass its gradients back to the mark, rewind
 abbrev pub turned : {N : Numbers} → List (Revolution N) → List (Call N)
@@ -81,9 +81,9 @@ pub record Deed (N : Numbers) : Type 0 where
 
 abbrev pub deed : {N : Numbers} → ℕ → Operation N → Deed N
 deed {N} m o = record {
-  operation = o .number;
+  operation = o .operation;
   left = meant m (o .left);
-  right = cond (one-sided (o .number)) (number (N .nought)) (meant m (o .right));
+  right = cond (one-sided (o .operation)) (number (N .nought)) (meant m (o .right));
   supplied = o .supplied;
 }
 
@@ -103,7 +103,7 @@ pub record Meaning (N : Numbers) : Type 0 where
 abbrev pub meaning : {N : Numbers} → Session N → Meaning N
 meaning s = record { model = map (deed 0) (s .model); turns = map (turn (length (s .model))) (s .revolutions) }
 
--- ---- the long tape
+-- ---- the long tape: nothing in it is read off a machine
 
 pub record Node (N : Numbers) : Type 0 where
   pub value : N .Number
@@ -141,11 +141,11 @@ seeds {N} (t ∷ ts) = seeds ts ++ set (replicate (length (t .deeds)) (N .nought
 
 -- the model, then the revolutions, walked once from the end to 0: what the model's adjoints are then
 abbrev pub long-tape : {N : Numbers} → Meaning N → List (N .Number)
-long-tape {N} meant =
-    let first = nodes 0 [] [] (meant .model) in
+long-tape {N} sense =
+    let first = nodes 0 [] [] (sense .model) in
     let m = length first in
-    let all = first ++ behind (map (λ n. n .value) first) (meant .turns) in
-    take m (walk 0 (map (λ n. n .edges) all) (replicate m (N .nought) ++ seeds (meant .turns)))
+    let all = first ++ behind (map (λ n. n .value) first) (sense .turns) in
+    take m (walk 0 (map (λ n. n .edges) all) (replicate m (N .nought) ++ seeds (sense .turns)))
 
 -- ---- what is proved
 
