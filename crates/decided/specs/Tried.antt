@@ -1,8 +1,9 @@
 -- A wrong answer, tried: what a promise's rule gives at some input, and what a wrong program would answer there, both written out in whole numbers (of a float, its bits). Where they differ, the promise rules the wrong answer out.
 use Prim.Native.Nat.{ℕ}
-use mathlib.Core.Bool.{Bool, true, false, not, _&&_}
+use mathlib.Core.Bool.{Bool, true, false, not, _&&_, cond}
 use mathlib.Core.List.{List, [], _∷_}
 use lib.Dec.{eqb}
+use lib.Ieee.{Float, binary64, toBits}
 
 pub record Tried : Type 0 where
   pub right : List ℕ
@@ -20,3 +21,11 @@ same (k ∷ ks) (l ∷ ls) = eqb k l && same ks ls
 abbrev pub ruled-out : List Tried → Bool
 ruled-out [] = true
 ruled-out (t ∷ ts) = not (same (t .right) (t .wrong)) && ruled-out ts
+
+-- ---- words for the rows
+
+abbrev pub bits : Float → ℕ
+bits = toBits binary64
+
+abbrev pub a-bool : Bool → Bool → Tried
+a-bool = tried (λ b. cond b 1 0 ∷ [])

@@ -4,7 +4,7 @@ use mathlib.Core.Path.{_≡_}
 use mathlib.Core.Bool.{Bool, true, false, cond}
 use mathlib.Core.List.{List, [], _∷_, _++_, map}
 use mathlib.Core.Option.{Option, none, some}
-use lib.Ieee.{Float, nan, binary64, toBits, div, neg as minus}
+use lib.Ieee.{Float, nan, binary64, div, neg as minus}
 use lib.ListN.{set, take, replicate}
 use Rattle.tape.specs.Numbers.{floats}
 use Rattle.tape.specs.Machine.{Arrays, Machine, arrays, machine, new-tape, fits}
@@ -12,7 +12,7 @@ use Rattle.tape.specs.Handles.{Operand, plain, node, looked-up}
 use Rattle.tape.specs.Walk.{Edge}
 use Rattle.tape.specs.Listing.{listing}
 use Rattle.tape.specs.Answers.{Answer, number, refused, done, told, recorded, counted}
-use Rattle.tape.specs.Calls.{Move, start, stop, set-mark, reset-mark, rewind-to-mark, rewind-to-init, move, operate, clear, pass, backward, backward-to-mark, backward-mark-to-start, propagate-to-mark, propagate-mark-to-start, value-of, adjoint-of, is-live, issued, written, with-adjoints, step}
+use Rattle.tape.specs.Calls.{Move, start, stop, set-mark, reset-mark, rewind-to-mark, rewind-to-init, move, operate, clear, pass, backward, backward-to-mark, backward-mark-to-start, propagate-to-mark, propagate-mark-to-start, value-of, adjoint-of, is-live, issued, written, with-adjoints, last-serial, step}
 use Rattle.tape.specs.Kept.{fresh, after}
 use Rattle.tape.specs.Rows.{float, sevens, handle, node-at, leaf, four-calls}
 use Rattle.tape.specs.declared.errors.Refusal.the-variants.{Misshapen, UnknownOperation, NotLive as Refusal·NotLive, Detached, Full, SerialsSpent, ListingTooLong}
@@ -22,18 +22,12 @@ use Rattle.tape.specs.declared.node.Lookup.the-variants.{Live, NotLive}
 use Rattle.tape.specs.declared.state.Tape.{Tape}
 use Rattle.expr.specs.Operators as expr
 use Rattle.listing.specs.Outcome.{listed}
-use Rattle.decided.specs.Tried.{Tried, tried, ruled-out}
+use Rattle.decided.specs.Tried.{Tried, tried, ruled-out, bits, a-bool}
 
 -- ---- how answers are written out
 
-abbrev pub bits : Float → ℕ
-bits = toBits binary64
-
 abbrev pub a-number : ℕ → ℕ → Tried
 a-number = tried (λ k. k ∷ [])
-
-abbrev pub a-bool : Bool → Bool → Tried
-a-bool = tried (λ b. cond b 1 0 ∷ [])
 
 abbrev pub found : Lookup → ℕ
 found Live = 1
@@ -110,6 +104,14 @@ to i p = record { child = i; weight = p }
 abbrev pub recording : Float → List (Edge floats) → Answer floats × Machine floats
 recording v es = (recorded v (issued (two .state)), written two v es)
 
+-- two nodes where two have room
+abbrev pub full : Machine floats
+full = after (move start ∷ leaf (float 3) ∷ leaf (float 2) ∷ []) (fresh (sevens 2))
+
+-- no serial left but the last
+abbrev pub spent : Machine floats
+spent = machine (state 2 0 true last-serial) (two .lent)
+
 -- the same with another adjoint, or another partial in its first slot
 abbrev pub with-adjoint : Float → Answer floats × Machine floats → Answer floats × Machine floats
 with-adjoint a (x, M) = (x, with-adjoints M (set (M .lent .adjoint) 2 a))
@@ -185,10 +187,13 @@ admits-tried = a-bool (fits true (kept 5 0 true)) true
 
 -- ---- wrong answers: expr
 
--- record: the new node's adjoint as its value; a right handle that is not live refused at 7
+-- record: the new node's adjoint as its value; a right handle that is not live refused at 7; operation 10 recorded; a node recorded past the capacity's last, or with the last serial
 abbrev pub record-tried : List Tried
 record-tried = a-step (step (expr.neg x0) two) (with-adjoint (minus (float 3)) (recording (minus (float 3)) (to 0 (minus one) ∷ [])))
-    ∷ a-step (step (operate 7 x0 stale expr.nothing) two) (refused Refusal·NotLive, two) ∷ []
+    ∷ a-step (step (operate 7 x0 stale expr.nothing) two) (refused Refusal·NotLive, two)
+    ∷ a-step (step (operate 10 x0 x1 expr.nothing) two) (recording nan [])
+    ∷ a-step (step (expr.neg x0) full) (recorded (minus (float 3)) (issued (full .state)), written full (minus (float 3)) (to 0 (minus one) ∷ []))
+    ∷ a-step (step (expr.new-leaf one) spent) (recorded one (issued (spent .state)), written spent one []) ∷ []
 
 -- new_leaf: an adjoint left by the slot's last tenant; an unused edge slot cleared
 abbrev pub new-leaf-tried : List Tried

@@ -1,19 +1,16 @@
--- Wrong answers that the promises of crate `forward` rule out, two for each function, at the lowest order where they show. `Tried` says what a row is; `NumbersTried` is proved in proofs/Wrong.antt, by computation.
+-- Wrong answers that the promises of crate `forward` rule out, two for each function, at an order where they show. `Tried` says what a row is; `NumbersTried` is proved in proofs/Wrong.antt, by computation.
 use Prim.Native.Nat.{ℕ}
 use mathlib.Core.Path.{_≡_}
-use mathlib.Core.Bool.{Bool, true, false, cond}
+use mathlib.Core.Bool.{true, false}
 use mathlib.Core.List.{List, [], _∷_, _++_, map}
-use lib.Ieee.{Float, nan, binary64, toBits, neg, eq, ne, lt, le}
+use lib.Ieee.{Float, nan, neg, eq, ne, lt, le}
 use Rattle.forward.specs.Forward.{Fwd, nought, one, constant, variable, value, derivative, sum, difference, product, quotient, negation, sum-plain, difference-plain, plain-difference, product-plain, quotient-plain, plain-quotient, remainder, remainder-plain, compared, compared-plain, gt, ge, comparison, abs, max-val, min-val}
 use Rattle.forward.specs.Rows.{float, parts}
 use Rattle.forward.specs.declared.comparison.Ordering.{Ordering}
 use Rattle.forward.specs.declared.comparison.Ordering.the-variants.{Less, Equal, Greater, NotComparable}
-use Rattle.decided.specs.Tried.{Tried, tried, ruled-out}
+use Rattle.decided.specs.Tried.{Tried, tried, ruled-out, bits, a-bool}
 
 -- ---- how answers are written out
-
-abbrev pub bits : Float → ℕ
-bits = toBits binary64
 
 abbrev pub at-1 : Fwd 1 → Fwd 1 → Tried
 at-1 = tried (λ x. map bits (parts 1 x))
@@ -23,9 +20,6 @@ at-2 = tried (λ x. map bits (parts 2 x))
 
 abbrev pub a-float : Float → Float → Tried
 a-float = tried (λ x. bits x ∷ [])
-
-abbrev pub a-bool : Bool → Bool → Tried
-a-bool = tried (λ b. cond b 1 0 ∷ [])
 
 abbrev pub rank : Ordering → ℕ
 rank Less = 0
@@ -99,7 +93,7 @@ sub-tried = at-1 (difference 1 x y) (difference 1 y x) ∷ at-1 (difference 1 x 
 abbrev pub mul-tried : List Tried
 mul-tried = at-1 (product 1 x y) (float 6, float 35) ∷ at-1 (product 1 x y) (float 6, float 21) ∷ []
 
--- div: the derivative divided by d; (bc - ad) / cc, equal in the reals and not in bits: with (1, 1) over (3, 1) that is 2/9, and (1 - 1/3) / 3 is one bit more
+-- div: the derivative divided by d; (bc - ad) / cc, equal in the reals and not in bits: with (1, 1) over (3, 1) that is 2/9, and (1 - 1/3) / 3 is one unit in the last place more
 abbrev pub div-tried : List Tried
 div-tried = at-1 (quotient 1 x y) (value 1 (quotient 1 x y), neg (quotient 0 (float 11) (float 14))) ∷ at-1 (quotient 1 (variable 1 one) (variable 1 (float 3))) (quotient 0 one (float 3), quotient 0 (float 2) (float 9)) ∷ []
 

@@ -1,4 +1,4 @@
--- Demand 1: every call, on any machine, ends in an answer or in one refusal of document 01's list. Each public call of the code is a `step` of this machine, by its promise.
+-- Demand 1: every call, on any machine, ends in an answer or in one refusal of document 01's list. Each public call on a tape is a `step` of this machine, by its promise; what a listing leaves in its bytes is in crates/listing/specs/Outcome.antt.
 use Prim.Native.Nat.{_≤_}
 use mathlib.Core.Path.{_≡_}
 use mathlib.Core.Bool.{Bool, cond}

@@ -7,9 +7,9 @@ use Rattle.tape.specs.Rows.{EveryRow, EveryText}
 pub every-row : EveryRow
 unfolding step add sub mul div neg lt le ofInt ofBits toBits
 every-row = (
-  (refl, (refl, tt)),
+  (refl, (refl, (refl, tt))),
   (
-    (refl, (refl, tt)),
+    (refl, (refl, (refl, tt))),
     (
       (refl, (refl, (refl, tt))),
       (

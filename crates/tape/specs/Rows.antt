@@ -108,26 +108,29 @@ four-answers = done ∷ recorded (float 3) (first 0) ∷ recorded (float 2) (fir
 abbrev pub four-adjoints : Sight
 four-adjoints = adjoints (float 3 ∷ float 3 ∷ float 1 ∷ float 1 ∷ float 7 ∷ [])
 
+abbrev pub four-listing : Sight
+four-listing = lists "nodes=4 mark=0 active=1\nnode=0 val=4008000000000000 adj=4008000000000000\nnode=1 val=4000000000000000 adj=4008000000000000\nnode=2 val=4018000000000000 adj=3ff0000000000000\nnode=3 val=4022000000000000 adj=3ff0000000000000\n"
+
 -- further calls on the four nodes, of five that the tape has room for
 abbrev pub on-four : List (Call floats) → List (Answer floats) → List Sight → Row
 on-four calls answers sights = record { before = fresh (sevens 5); calls = four-calls ++ calls; answers = four-answers ++ answers; sights = sights }
 
 -- P1 without a root, mark 0 walked to start, or mark = length walked from the end: nothing changes, count 0
 abbrev pub P1-to-start : Row
-P1-to-start = on-four (pass propagate-mark-to-start ∷ []) (counted 0 ∷ []) (four-adjoints ∷ [])
+P1-to-start = on-four (pass propagate-mark-to-start ∷ []) (counted 0 ∷ []) (four-adjoints ∷ four-listing ∷ [])
 
 abbrev pub P1-to-mark : Row
-P1-to-mark = on-four (move set-mark ∷ pass propagate-to-mark ∷ []) (done ∷ counted 0 ∷ []) (four-adjoints ∷ [])
+P1-to-mark =
+    on-four
+    (move set-mark ∷ pass propagate-to-mark ∷ [])
+    (done ∷ counted 0 ∷ [])
+    (four-adjoints
+    ∷ lists "nodes=4 mark=4 active=1\nnode=0 val=4008000000000000 adj=4008000000000000\nnode=1 val=4000000000000000 adj=4008000000000000\nnode=2 val=4018000000000000 adj=3ff0000000000000\nnode=3 val=4022000000000000 adj=3ff0000000000000\n"
+    ∷ [])
 
 -- P2 the listing's four nodes and adjoints; count 4
 abbrev pub P2 : Row
-P2 =
-    on-four
-    []
-    []
-    (four-adjoints
-    ∷ lists "nodes=4 mark=0 active=1\nnode=0 val=4008000000000000 adj=4008000000000000\nnode=1 val=4000000000000000 adj=4008000000000000\nnode=2 val=4018000000000000 adj=3ff0000000000000\nnode=3 val=4022000000000000 adj=3ff0000000000000\n"
-    ∷ [])
+P2 = on-four [] [] (four-adjoints ∷ four-listing ∷ [])
 
 -- P3 x*x at 3: adjoint 6, count 2. P4 backward again without clearing: 12
 abbrev pub squared : List (Call floats)
