@@ -1,7 +1,6 @@
 -- Two neighbours among the revolutions trade places. Both sessions' adjoints are those of their revolutions one by one, and on lists the two may be swapped.
-use Prim.Native.Nat.{ℕ}
-use mathlib.Core.Path.{_≡_, refl, sym, ap, _∙_}
-use mathlib.Core.List.{List, [], _∷_, map, map-append}
+use mathlib.Core.Path.{_≡_, sym, ap, _∙_}
+use mathlib.Core.List.{List, [], map, map-append}
 use lib.ListN.{length, length-map}
 use Rattle.tape.specs.Numbers.{Numbers}
 use Rattle.tape.specs.Machine.{Machine}
