@@ -1,4 +1,4 @@
--- Wrong answers that the promises of crates `tape`, `expr`, `dual` and `listing` rule out, two or more for each function. `Tried` says what a row is; `CallsTried` is proved in proofs/Wrong.antt, by computation.
+-- Wrong answers that the promises of crates `tape`, `expr`, `dual` and `listing` rule out, two or more for each function, and three wrong programs for every call. `Tried` says what a row is; `CallsTried` is proved in proofs/Wrong.antt, by computation.
 use Prim.Native.Nat.{ℕ}
 use mathlib.Core.Path.{_≡_}
 use mathlib.Core.Bool.{Bool, true, false, cond}
@@ -12,7 +12,7 @@ use Rattle.tape.specs.Handles.{Operand, plain, node, looked-up}
 use Rattle.tape.specs.Walk.{Edge}
 use Rattle.tape.specs.Listing.{listing}
 use Rattle.tape.specs.Answers.{Answer, number, refused, done, told, recorded, counted}
-use Rattle.tape.specs.Calls.{Move, start, stop, set-mark, reset-mark, rewind-to-mark, rewind-to-init, move, operate, clear, pass, backward, backward-to-mark, backward-mark-to-start, propagate-to-mark, propagate-mark-to-start, value-of, adjoint-of, is-live, issued, written, with-adjoints, last-serial, step}
+use Rattle.tape.specs.Calls.{Call, Move, start, stop, set-mark, reset-mark, rewind-to-mark, rewind-to-init, move, operate, clear, pass, backward, backward-to-mark, backward-mark-to-start, propagate-to-mark, propagate-mark-to-start, value-of, adjoint-of, is-live, list, issued, written, with-adjoints, last-serial, step}
 use Rattle.tape.specs.Kept.{fresh, after}
 use Rattle.tape.specs.Rows.{float, sevens, handle, node-at, leaf, four-calls}
 use Rattle.tape.specs.declared.errors.Refusal.the-variants.{Misshapen, UnknownOperation, NotLive as Refusal·NotLive, Detached, Full, SerialsSpent, ListingTooLong}
@@ -100,10 +100,6 @@ stale = node (handle 1 9)
 abbrev pub to : ℕ → Float → Edge floats
 to i p = record { child = i; weight = p }
 
--- a third node of this value, with these edges
-abbrev pub recording : Float → List (Edge floats) → Answer floats × Machine floats
-recording v es = (recorded v (issued (two .state)), written two v es)
-
 -- two nodes where two have room
 abbrev pub full : Machine floats
 full = after (move start ∷ leaf (float 3) ∷ leaf (float 2) ∷ []) (fresh (sevens 2))
@@ -112,7 +108,11 @@ full = after (move start ∷ leaf (float 3) ∷ leaf (float 2) ∷ []) (fresh (s
 abbrev pub spent : Machine floats
 spent = machine (state 2 0 true last-serial) (two .lent)
 
--- the same with another adjoint, or another partial in its first slot
+-- on `two`: a third node of this value, with these edges
+abbrev pub recording : Float → List (Edge floats) → Answer floats × Machine floats
+recording v es = (recorded v (issued (two .state)), written two v es)
+
+-- such a node with another adjoint, or another partial in its first slot
 abbrev pub with-adjoint : Float → Answer floats × Machine floats → Answer floats × Machine floats
 with-adjoint a (x, M) = (x, with-adjoints M (set (M .lent .adjoint) 2 a))
 
@@ -187,7 +187,7 @@ admits-tried = a-bool (fits true (kept 5 0 true)) true
 
 -- ---- wrong answers: expr
 
--- record: the new node's adjoint as its value; a right handle that is not live refused at 7; operation 10 recorded; a node recorded past the capacity's last, or with the last serial
+-- record: the new node's adjoint as its value; a right handle that is not live refused at 7; operation 10 recorded; a node recorded past the capacity, or with the last serial
 abbrev pub record-tried : List Tried
 record-tried = a-step (step (expr.neg x0) two) (with-adjoint (minus (float 3)) (recording (minus (float 3)) (to 0 (minus one) ∷ [])))
     ∷ a-step (step (operate 7 x0 stale expr.nothing) two) (refused Refusal·NotLive, two)
@@ -282,15 +282,15 @@ abbrev pub backward-to-mark-tried : List Tried
 backward-to-mark-tried = a-step (step (pass (backward-to-mark (node-at 3))) (marked 2)) (passed (marked 2) 4 (11 ∷ 12 ∷ 3 ∷ 2 ∷ 7 ∷ []))
     ∷ a-step (step (pass (backward-to-mark (node-at 2))) (marked 2)) (passed (marked 2) 2 (5 ∷ 6 ∷ 1 ∷ 1 ∷ 7 ∷ [])) ∷ []
 
--- backward_mark_to_start: the edges of a root past the mark walked; the root's adjoint left as it was
+-- backward_mark_to_start: the edges of a root past the mark walked; the node at the mark walked too
 abbrev pub backward-mark-to-start-tried : List Tried
 backward-mark-to-start-tried = a-step (step (pass (backward-mark-to-start (node-at 3))) (marked 2)) (passed (marked 2) 2 (4 ∷ 3 ∷ 2 ∷ 1 ∷ 7 ∷ []))
-    ∷ a-step (step (pass (backward-mark-to-start (node-at 0))) (marked 2)) (passed (marked 2) 0 (3 ∷ 3 ∷ 1 ∷ 1 ∷ 7 ∷ [])) ∷ []
+    ∷ a-step (step (pass (backward-mark-to-start (node-at 0))) (marked 2)) (passed (marked 2) 2 (3 ∷ 6 ∷ 1 ∷ 1 ∷ 7 ∷ [])) ∷ []
 
--- propagate_to_mark: each adjoint 0 or 1; the adjoints untouched
+-- propagate_to_mark: the nodes below the mark walked too; the range walked from its lowest index up
 abbrev pub propagate-to-mark-tried : List Tried
-propagate-to-mark-tried = a-step (step (pass propagate-to-mark) (marked 2)) (passed (marked 2) 4 (1 ∷ 1 ∷ 1 ∷ 1 ∷ 7 ∷ []))
-    ∷ a-step (step (pass propagate-to-mark) (marked 2)) (passed (marked 2) 4 (3 ∷ 3 ∷ 1 ∷ 1 ∷ 7 ∷ [])) ∷ []
+propagate-to-mark-tried = a-step (step (pass propagate-to-mark) (marked 3)) (passed (marked 3) 4 (8 ∷ 9 ∷ 2 ∷ 1 ∷ 7 ∷ []))
+    ∷ a-step (step (pass propagate-to-mark) (marked 2)) (passed (marked 2) 4 (6 ∷ 6 ∷ 2 ∷ 1 ∷ 7 ∷ [])) ∷ []
 
 -- propagate_mark_to_start: a count of 0; a count of the nodes
 abbrev pub propagate-mark-to-start-tried : List Tried
@@ -299,16 +299,52 @@ propagate-mark-to-start-tried = a-step (step (pass propagate-mark-to-start) (mar
 
 -- ---- wrong answers: listing
 
--- list: bytes written where the listing does not fit; a listing refused that fits to the last byte; the bytes after it cleared
+-- list: bytes written where the listing does not fit; a listing refused that fits to the last byte; the bytes after it cleared; the bytes left as they were
 abbrev pub list-tried : List Tried
 list-tried = a-listing (listed (marked 2) (replicate 10 120)) ((refused ListingTooLong, marked 2), take 10 (listing (marked 2)))
     ∷ a-listing (listed (marked 2) (replicate 220 120)) ((refused ListingTooLong, marked 2), replicate 220 120)
-    ∷ a-listing (listed (marked 2) (replicate 221 120)) ((counted 220, marked 2), listing (marked 2) ++ (0 ∷ [])) ∷ []
+    ∷ a-listing (listed (marked 2) (replicate 221 120)) ((counted 220, marked 2), listing (marked 2) ++ (0 ∷ []))
+    ∷ a-listing (listed (marked 2) (replicate 220 120)) ((counted 220, marked 2), replicate 220 120) ∷ []
 
 -- bits_of: a NaN with another pattern; one bit pattern for both zeros
 abbrev pub bits-of-tried : List Tried
 bits-of-tried = a-number (bits nan) 0xfff8_0000_0000_0000
     ∷ a-number (bits (minus nought)) (bits nought) ∷ []
+
+-- ---- wrong answers: every call
+
+-- each pass, where it changes the adjoints
+abbrev pub passes : List (Call floats × Machine floats)
+passes =
+    (pass (backward (node-at 2)), marked 2)
+    ∷ (pass (backward-to-mark (node-at 3)), marked 2)
+    ∷ (pass (backward-mark-to-start (node-at 0)), marked 2)
+    ∷ (pass propagate-to-mark, marked 2)
+    ∷ (pass propagate-mark-to-start, marked 3)
+    ∷ []
+
+-- each call that changes the machine
+abbrev pub changes : List (Call floats × Machine floats)
+changes = map (λ m. (move m, kept 3 1 true)) (start ∷ stop ∷ set-mark ∷ reset-mark ∷ rewind-to-mark ∷ rewind-to-init ∷ []) ++ ((expr.mul x0 x1, two) ∷ (clear, marked 2) ∷ passes)
+
+-- and those that read it
+abbrev pub readings : List (Call floats × Machine floats)
+readings = (value-of x0, marked 2) ∷ (adjoint-of x0, marked 2) ∷ (is-live x0, marked 2) ∷ (list 220, marked 2) ∷ []
+
+-- a refusal, always
+abbrev pub refuses-tried : List Tried
+refuses-tried = map (λ (c, M). a-step (step c M) (refused Misshapen, M)) (changes ++ readings)
+
+-- the right answer, and the machine left as it was
+abbrev pub untouched-tried : List Tried
+untouched-tried = map (λ (c, M). a-step (step c M) (step c M .0, M)) changes
+
+-- of a pass: the right count, and each live adjoint x
+abbrev pub each-adjoint : Float → List Tried
+each-adjoint x = map (λ (c, M). a-step (step c M) (step c M .0, with-adjoints M (replicate 4 x ++ (float 7 ∷ [])))) passes
+
+abbrev pub nought-or-one-tried : List Tried
+nought-or-one-tried = each-adjoint nought ++ each-adjoint one
 
 abbrev pub calls-tried : List Tried
 calls-tried =
@@ -318,7 +354,8 @@ calls-tried =
     ++ mul-tried ++ div-tried ++ max-tried ++ min-tried ++ neg-tried
     ++ supplied-one-tried ++ supplied-two-tried ++ value-tried ++ adjoint-tried ++ is-live-tried
     ++ reset-adjoints-tried ++ backward-tried ++ backward-to-mark-tried ++ backward-mark-to-start-tried ++ propagate-to-mark-tried
-    ++ propagate-mark-to-start-tried ++ list-tried ++ bits-of-tried
+    ++ propagate-mark-to-start-tried ++ list-tried ++ bits-of-tried ++ refuses-tried ++ untouched-tried
+    ++ nought-or-one-tried
 
 -- none of them is the rule's answer
 abbrev pub CallsTried : Type 0

@@ -4,7 +4,6 @@ use mathlib.Core.Path.{_≡_, refl, sym, ap, _∙_}
 use mathlib.Core.Bool.{Bool, true, false, not, _&&_, _||_, cond, or-false}
 use mathlib.Core.List.{List, [], _∷_, _++_, append-nil}
 use mathlib.Core.Option.{Option, none, some}
-use borrow.Author.Tests.{eqb-true}
 use native.Mathlib.Omega.{arith}
 use lib.Dec.{eqb}
 use lib.Ieee.{Float, nan, binary64, ofBits}
@@ -20,7 +19,8 @@ use Rattle.tape.specs.declared.errors.Refusal.{Refusal}
 use Rattle.tape.specs.declared.errors.Refusal.the-variants.{Misshapen, UnknownOperation, NotLive, Full, SerialsSpent}
 use Rattle.tape.specs.declared.node.Operand.{Operand}
 use Rattle.tape.specs.declared.node.Operand.the-variants.{Number, Node}
-use Rattle.tape.proofs.Tests.{by-or, Fit, fit}
+use Rattle.tape.proofs.Steps.{by-one-sided}
+use Rattle.tape.proofs.Tests.{Fit, fit}
 use Rattle.expr.specs.Outcome.{given}
 use Rattle.expr.specs.Inner.{Reads, decided, found-operand, unlinked, made-from, made-of, row-by, row-of, edge-of, edges-of, edges-told, kept, settled}
 use Rattle.expr.specs.declared.operations.Supplied.{Supplied}
@@ -142,7 +142,7 @@ module _ (M : Machine floats) where
 
   -- an operation that uses the left operand alone makes the same of any right one
   alone-so : (op : ℕ) (l r : Operand) (g : Supplied) (x : Float) → one-sided op ≡ true → made op l (Number x) g ≡ made op l r g
-  alone-so op l r g x = by-or _ _ (by-or _ _ (λ t. rw (eqb-true op 0 t, no-partial r)) (λ t. rw (eqb-true op 7 t, no-partial r))) (λ t. rw (eqb-true op 8 t, no-partial r))
+  alone-so op l r g x = by-one-sided (λ op. made op l (Number x) g ≡ made op l r g) op (rw (no-partial r)) (rw (no-partial r)) (rw (no-partial r))
 
   abbrev Decides : ℕ → Operand → Operand → Supplied → Type 0
   Decides op l r g =

@@ -5,7 +5,7 @@ use mathlib.Core.Path.{_≡_, refl, sym, ap, subst, _∙_}
 use mathlib.Core.Bool.{Bool, true, false, not, cond, true≢false}
 use mathlib.Core.List.{List, [], _∷_, _++_, map, append-nil, append-assoc}
 use mathlib.Core.Option.{Option, none, some}
-use borrow.Author.Tests.{ltb-true, ltb-false, eqb-true, not-false}
+use borrow.Author.Tests.{ltb-true, ltb-false}
 use lib.Dec.{ltb}
 use lib.ListN.{length, getD, replicate, List·getD-append}
 use lib.Seq.{getD-take, getD-append-add}
@@ -20,8 +20,8 @@ use Rattle.tape.specs.Kept.{after}
 use Rattle.tape.specs.Passes.{Unrefused}
 use Rattle.tape.specs.declared.node.Handle.{Handle}
 use Rattle.tape.proofs.Passes.{Accepted, accepted}
-use Rattle.tape.proofs.Steps.{Ready, ready, lives-told, or-false, both-ok, alone}
-use Rattle.tape.proofs.Tests.{by-test, by-or}
+use Rattle.tape.proofs.Steps.{Ready, ready, first-live, both-ok, by-one-sided, alone}
+use Rattle.tape.proofs.Tests.{by-test}
 use Rattle.revolutions.specs.Revolutions.{Operation, recordings, Meant, number, meant, Deed, deed, Node, nodes, worth as worth-meant, edge as edge-meant}
 use Rattle.revolutions.proofs.Held.{Holds, noted}
 
@@ -46,7 +46,7 @@ module _ (N : Numbers) (b : ℕ) where
 
 -- operations 0, 7 and 8 do not look at the right value
 right-idle : {N : Numbers} (op : ℕ) (l r x : N .Number) (g : Given N) → one-sided op ≡ true → apply op l r g ≡ apply op l x g
-right-idle op l r x g = by-or _ _ (by-or _ _ (λ t. rw (eqb-true op 0 t)) (λ t. rw (eqb-true op 7 t))) (λ t. rw (eqb-true op 8 t))
+right-idle op l r x g = by-one-sided (λ op. apply op l r g ≡ apply op l x g) op refl refl refl
 
 -- equal rows make equal nodes
 by-rows : {N : Numbers} (b : ℕ) (l r : Operand N) (m : Meant N) (s t : Row N) → s ≡ t → edge r (t .right) ≡ edge-meant b m (t .right)
@@ -74,9 +74,8 @@ module _ {N : Numbers} (M : Machine N) (b k : ℕ) (models owns adjoints : List 
   same-worth : (o : Operand N) (os : List (Operand N)) → any-stale M (handles (o ∷ os)) ≡ false → (worth M o ≡ worth-meant models owns (meant b o)) × (any-stale M (handles os) ≡ false)
   same-worth (plain x) os all-live = (refl, all-live)
   same-worth (node h) os all-live =
-      let both = or-false (not (live M h)) (any-stale M (handles os)) all-live in
-      let l = lives-told (M .state .length) (M .lent .serial) h (not-false (live M h) (both .0)) in
-      (sym (getD-take (M .state .length) (M .lent .value) (h .index) (N .blank) (l .below)) ∙ ap (λ s. getD s (h .index) (N .blank)) (held .value) ∙ same-value N b models owns h long, both .1)
+      let (l, others) = first-live M h (handles os) all-live in
+      (sym (getD-take (M .state .length) (M .lent .value) (h .index) (N .blank) (l .below)) ∙ ap (λ s. getD s (h .index) (N .blank)) (held .value) ∙ same-value N b models owns h long, others)
 
   -- the node that a call writes is the one that its deed makes, by whether the right operand is used
   same-node : (o : Operation N) → any-stale M (handles (used (o .operation) (o .left) (o .right))) ≡ false → called M o ≡ made b models owns (deed b o)

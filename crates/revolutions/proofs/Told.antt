@@ -17,7 +17,7 @@ use Rattle.tape.specs.Kept.{after}
 use Rattle.tape.specs.Passes.{Unrefused}
 use Rattle.tape.specs.declared.node.Handle.{Handle}
 use Rattle.tape.proofs.Passes.{Accepted, accepted}
-use Rattle.tape.proofs.Steps.{Lives, lives-told, or-false}
+use Rattle.tape.proofs.Steps.{first-live}
 use Rattle.tape.proofs.Tests.{by-test, fit}
 use Rattle.revolutions.specs.Revolutions.{Operation, Revolution, Session, number, meant, deed, turn, meaning, recordings, turned, calls, AtOrPast, Plays}
 use Rattle.revolutions.proofs.Runs.{reads-left-out, unrefused-parts}
@@ -31,18 +31,14 @@ twice : {A : Type 0} (b : Bool) (x y : A) → cond b x (cond b x y) ≡ cond b x
 twice true x y = refl
 twice false x y = refl
 
--- of handles none of which is stale the first is live
-first-live : {N : Numbers} (L : Machine N) (h : Handle) (hs : List Handle) → any-stale L (h ∷ hs) ≡ false → Lives (L .state .length) (L .lent .serial) h
-first-live L h hs e = lives-told _ _ h (not-false (live L h) (or-false (not (live L h)) _ e .0))
-
 -- behind a model of m nodes, with j own nodes
 module _ {N : Numbers} (L : Machine N) (m j : ℕ) (nodes : L .state .length ≡ m + j) where
   -- a live handle's node stands before the one to be recorded
   placed : (o : Operand N) (os : List (Operand N)) → any-stale L (handles (o ∷ os)) ≡ false → Placed m j (meant m o) × (any-stale L (handles os) ≡ false)
   placed (plain x) os e = (tt, e)
   placed (node h) os e =
-      let l = first-live L h (handles os) e in
-      (by-test (Placed m j) (ltb (h .index) m) (ltb-true _ _) (λ t. omega (arith, ltb-false (h .index) m t)), or-false (not (live L h)) _ e .1)
+      let (l, others) = first-live L h (handles os) e in
+      (by-test (Placed m j) (ltb (h .index) m) (ltb-true _ _) (λ t. omega (arith, ltb-false (h .index) m t)), others)
 
   -- and so do those of the operands that an operation uses
   both-placed : (alone : Bool) (left right : Operand N) → any-stale L (handles (cond alone (left ∷ []) (left ∷ right ∷ []))) ≡ false
@@ -92,7 +88,7 @@ module _ {N : Numbers} {A : Arrays N} {m first : ℕ} where
       let L₁ = after (recordings os) L in
       let s₁ = t .stands in
       let a = accepted back L₁ p in
-      let alive = first-live L₁ (r .root) [] (a .passed .all-live) in
+      let alive = first-live L₁ (r .root) [] (a .passed .all-live) .0 in
       let n = length-map os (deed m) in
       let more = told-turns rs _ _ (rewound (walked s₁ _ a) (accepted (move rewind-to-mark) (step back L₁ .1) w)) roots rest in
       ((record { deeds = t .deeds; room = omega arith; root = omega arith }, more .0), λ h. omega (arith, more .1 (omega (arith, t .serials (omega arith)))))

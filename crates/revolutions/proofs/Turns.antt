@@ -3,9 +3,7 @@ use Prim.Native.Nat.{ℕ, suc, _+_, _-_, _≤_}
 use native.Mathlib.Nat.{sub-zero}
 use native.Mathlib.Omega.{arith}
 use mathlib.Core.Path.{_≡_, refl, sym, ap, subst, _∙_}
-use mathlib.Core.Bool.{or-false}
 use mathlib.Core.List.{List, [], _∷_, _++_, map, append-nil}
-use borrow.Author.Tests.{not-false}
 use lib.ListN.{length, set, take, drop, replicate, length-map, length-set, length-replicate}
 use lib.Seq.{take-at, take-set-lt}
 use Rattle.tape.specs.Numbers.{Numbers}
@@ -17,7 +15,7 @@ use Rattle.tape.specs.Kept.{after}
 use Rattle.tape.specs.Passes.{Unrefused}
 use Rattle.tape.specs.declared.node.Handle.{Handle}
 use Rattle.tape.proofs.Passes.{accepted}
-use Rattle.tape.proofs.Steps.{lives-told}
+use Rattle.tape.proofs.Steps.{first-live}
 use Rattle.revolutions.specs.Revolutions.{Revolution, Session, recordings, turned, calls, deed, Deed, Turn, turn, Meaning, meaning, Node, nodes, AtOrPast, Plays, model-adjoints}
 use Rattle.revolutions.specs.Folded.{Part, seed, folded, folded-all, one-by-one}
 use Rattle.revolutions.proofs.Held.{Holds, started, mark-set, adjoints-set, rewound, whole, high-part}
@@ -54,7 +52,7 @@ module _ {N : Numbers} (M : Machine N) (m : ℕ) (values adjoints : List (N .Num
   to-mark low high h l held u =
       let p : Pass N = backward-to-mark (node h) in
       let n = M .state .length in
-      let alive = lives-told n (M .lent .serial) h (not-false _ (rw or-false at (accepted (pass p) M u .passed .all-live))) in
+      let alive = first-live M h [] (accepted (pass p) M u .passed .all-live) .0 in
       let all : n ≡ length low + length high = whole (edges-at (M .lent)) n low high (held .edge) in
       let past : map (edges-at (M .lent)) (range (plan p (M .state))) ≡ high = rw (held .marked, ← l) (high-part (edges-at (M .lent)) n low high (held .edge)) in
       let first = take-set-lt n (M .lent .adjoint) (h .index) (N .one) (alive .below) ∙ ap (λ s. set s (h .index) (N .one)) (held .adjoint) in

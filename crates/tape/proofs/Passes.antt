@@ -21,7 +21,7 @@ use Rattle.tape.specs.declared.errors.Refusal.the-variants.{UnsoundEdge}
 use Rattle.tape.proofs.OneToOne.{by-number, at-refusal, told}
 use Rattle.tape.proofs.Ranges.{length-indexes, indexes-cut, sum-append, all-append, all-below}
 use Rattle.tape.proofs.Recording.{SoundNodes, recording}
-use Rattle.tape.proofs.Steps.{Hit, here, there, Passed, by-refusal, lives-told}
+use Rattle.tape.proofs.Steps.{Hit, here, there, Passed, by-refusal, first-live}
 use Rattle.tape.proofs.Tests.{by-test, Fit, fit, state-fit-so, refits}
 
 -- ---- each edge
@@ -139,7 +139,7 @@ both-ranges = record {
 
 ends : {N : Numbers} (p : Pass N) (M : Machine N) → Fit M → any-stale M (handles (plan p (M .state) .root)) ≡ false → plan p (M .state) .end ≤ M .state .length
 ends (backward (plain x)) M f all-live = omega arith
-ends (backward (node h)) M f all-live = let l = lives-told (M .state .length) (M .lent .serial) h (not-false _ (rw or-false at all-live)) in omega arith
+ends (backward (node h)) M f all-live = let l = first-live M h [] all-live .0 in omega arith
 ends (backward-to-mark x) M f all-live = omega arith
 ends (backward-mark-to-start x) M f all-live = omega arith
 ends propagate-to-mark M f all-live = omega arith

@@ -96,13 +96,17 @@ pub or-false : (a b : Bool) → a || b ≡ false → (a ≡ false) × (b ≡ fal
 or-false true b e = (e, absurd (true≢false e))
 or-false false b e = (refl, e)
 
+-- of handles none of which is stale the first is live, and of the others none is stale
+pub first-live : {N : Numbers} (M : Machine N) (h : Handle) (hs : List Handle) → any-stale M (h ∷ hs) ≡ false → Lives (M .state .length) (M .lent .serial) h × (any-stale M hs ≡ false)
+first-live M h hs e = let both = or-false (not (live M h)) (any-stale M hs) e in (lives-told _ _ h (not-false (live M h) (both .0)), both .1)
+
 module _ {N : Numbers} (M : Machine N) where
   edge-ok : (o : Operand N) (p : Option (N .Number)) (os : List (Operand N)) (es : List (Edge N)) (k : ℕ) → any-stale M (handles (o ∷ os)) ≡ false → (any-stale M (handles os) ≡ false → Edges (M .state .length) k es) → Edges (M .state .length) (suc k) (edge o p ++ es)
   edge-ok (plain x) p os es k e rest = let r = rest e in record { few = omega arith; below = r .below }
-  edge-ok (node h) none os es k e rest = let r = rest (or-false (not (live M h)) _ e .1) in record { few = omega arith; below = r .below }
+  edge-ok (node h) none os es k e rest = let r = rest (first-live M h (handles os) e .1) in record { few = omega arith; below = r .below }
   edge-ok (node h) (some p) os es k e rest =
-      let r = rest (or-false (not (live M h)) _ e .1) in
-      let l = lives-told _ (M .lent .serial) h (not-false (live M h) (or-false _ _ e .0)) in
+      let (l, others) = first-live M h (handles os) e in
+      let r = rest others in
       record { few = omega arith; below = rw (lt-ltb _ _ (l .below)) (r .below) }
 
   no-edges : (k : ℕ) → Edges {N = N} (M .state .length) k []
@@ -117,9 +121,13 @@ module _ {N : Numbers} (M : Machine N) where
   both-ok false left right p q alone e =
       edge-ok left p (right ∷ []) (edge right q) 1 e (λ e′. rw append-nil at (edge-ok right q [] [] 0 e′ (λ _. no-edges 0)))
 
--- the operations that use the left operand alone have no right partial
+-- what holds of 0, 7 and 8 holds of an operation that uses the left operand alone
+pub by-one-sided : (P : ℕ → Type 0) (op : ℕ) → P 0 → P 7 → P 8 → one-sided op ≡ true → P op
+by-one-sided P op p q r = by-or _ _ (by-or _ _ (λ t. rw (eqb-true op 0 t) p) (λ t. rw (eqb-true op 7 t) q)) (λ t. rw (eqb-true op 8 t) r)
+
+-- such an operation has no right partial
 pub alone : {N : Numbers} (op : ℕ) (l r : N .Number) (g : Given N) → one-sided op ≡ true → apply op l r g .right ≡ none
-alone op l r g = by-or _ _ (by-or _ _ (λ t. rw (eqb-true op 0 t)) (λ t. rw (eqb-true op 7 t))) (λ t. rw (eqb-true op 8 t))
+alone op l r g = by-one-sided (λ op. apply op l r g .right ≡ none) op refl refl refl
 
 -- ---- what a step leaves
 
