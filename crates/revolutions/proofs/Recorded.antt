@@ -2,7 +2,7 @@
 use Prim.Native.Nat.{ℕ, _+_, _-_, _≤_}
 use native.Mathlib.Omega.{arith}
 use mathlib.Core.Path.{_≡_, refl, sym, ap, subst, _∙_}
-use mathlib.Core.Bool.{Bool, true, false, not, cond, true≢false}
+use mathlib.Core.Bool.{Bool, true, false, cond, true≢false}
 use mathlib.Core.List.{List, [], _∷_, _++_, map, append-nil, append-assoc}
 use mathlib.Core.Option.{Option, none, some}
 use borrow.Author.Tests.{ltb-true, ltb-false}
@@ -11,7 +11,7 @@ use lib.ListN.{length, getD, replicate, List·getD-append}
 use lib.Seq.{getD-take, getD-append-add}
 use Rattle.tape.specs.Numbers.{Numbers}
 use Rattle.tape.specs.Machine.{Machine}
-use Rattle.tape.specs.Handles.{Operand, plain, node, live, worth, handles}
+use Rattle.tape.specs.Handles.{Operand, plain, node, worth, handles}
 use Rattle.tape.specs.Operations.{Given, Row, apply, one-sided, used}
 use Rattle.tape.specs.Walk.{Edge}
 use Rattle.tape.specs.Answers.{Answer}

@@ -3,19 +3,18 @@ use Prim.Native.Nat.{ℕ, suc, _+_}
 use native.Mathlib.Nat.{add-zero, add-suc, suc-add, zero-add}
 use native.Mathlib.Omega.{arith}
 use mathlib.Core.Path.{_≡_, refl}
-use mathlib.Core.Bool.{Bool, true, false, not, cond}
+use mathlib.Core.Bool.{Bool, true, false, cond}
 use mathlib.Core.List.{List, [], _∷_, _++_, map}
 use borrow.Author.Tests.{ltb-true, ltb-false, eqb-false, not-false}
 use lib.Dec.{ltb}
 use lib.ListN.{length, length-map}
 use Rattle.tape.specs.Numbers.{Numbers}
 use Rattle.tape.specs.Machine.{Arrays, Machine, capacity}
-use Rattle.tape.specs.Handles.{Operand, plain, node, live, handles}
+use Rattle.tape.specs.Handles.{Operand, plain, node, handles}
 use Rattle.tape.specs.Operations.{one-sided}
 use Rattle.tape.specs.Calls.{Call, move, start, set-mark, rewind-to-mark, operate, clear, pass, backward-to-mark, propagate-mark-to-start, any-stale, last-serial, step, run}
 use Rattle.tape.specs.Kept.{after}
 use Rattle.tape.specs.Passes.{Unrefused}
-use Rattle.tape.specs.declared.node.Handle.{Handle}
 use Rattle.tape.proofs.Passes.{Accepted, accepted}
 use Rattle.tape.proofs.Steps.{first-live}
 use Rattle.tape.proofs.Tests.{by-test, fit}

@@ -3,7 +3,7 @@ use Prim.Native.Nat.{ℕ, zero, suc, _+_, _-_, _≤_, _<_, zero-le}
 use native.Mathlib.Nat.{zero-add, add-zero, add-suc, suc-add, sub-self, add-sub-of-le}
 use native.Mathlib.Omega.{arith}
 use mathlib.Core.Path.{_≡_, refl, sym, ap, subst, _∙_}
-use mathlib.Core.Bool.{true, false, true≢false, or-false, and-eq-true-iff}
+use mathlib.Core.Bool.{true, false, true≢false, and-eq-true-iff}
 use mathlib.Core.List.{List, [], _∷_, _++_, map, map-append}
 use borrow.Author.Tests.{ltb-true, not-true, not-false}
 use lib.Dec.{ltb}
