@@ -5,7 +5,7 @@ use native.Mathlib.Omega.{arith}
 use native.Mathlib.Decide.{decLt}
 use native.Mathlib.Numerals.{add-one}
 use mathlib.Core.Path.{_≡_, refl, sym, ap, subst, _∙_}
-use mathlib.Core.Bool.{Bool, true, false, _&&_, and-eq-true-iff}
+use mathlib.Core.Bool.{Bool, true, false, _&&_, _||_, and-assoc, and-true, and-eq-true-iff}
 use mathlib.Core.List.{List, [], _∷_, _++_, map}
 use borrow.Author.Tests.{ltb-true, leb-true, le-ltb, lt-ltb, le-leb, lt-leb}
 use lib.Dec.{ltb, leb}
@@ -68,17 +68,18 @@ below-between i cs s end = below i (edges-from cs [] s (end - s))
 pub below-first : (i : ℕ) (cs : List ℕ) (s end : ℕ) → s < end → below-between i cs s end ≡ (ltb (getD cs s 0) i && below-between i cs (s + 1) end)
 below-first i cs s end h = ap (below i) (edges-first cs [] s end h)
 
-pub above-refused : (i : ℕ) (cs : List ℕ) (s end : ℕ) → s < end → i ≤ getD cs s 0 → below-between i cs s end ≡ false
-above-refused i cs s end h l = below-first i cs s end h ∙ rw (le-ltb _ _ l)
-
 pub below-next : (i : ℕ) (cs : List ℕ) (s end : ℕ) → s < end → getD cs s 0 < i → below-between i cs s end ≡ below-between i cs (s + 1) end
 below-next i cs s end h l = below-first i cs s end h ∙ rw (lt-ltb _ _ l)
 
-pub below-done : (i : ℕ) (cs : List ℕ) (s end : ℕ) → end ≤ s → below-between i cs s end ≡ true
-below-done i cs s end h = rw (nothing-left s end h)
+slots-below : (i : ℕ) (cs : List ℕ) (s k : ℕ) → ((leb k 2 && (ltb k 1 || ltb (getD cs s 0) i)) && (ltb k 2 || ltb (getD cs (s + 1) 0) i)) ≡ (leb k 2 && below i (edges-from cs [] s k))
+slots-below i cs s zero = refl
+slots-below i cs s (suc zero) = refl
+slots-below i cs s (suc (suc zero)) = rw (add-one s, and-true (ltb (getD cs (suc s) 0) i))
+slots-below i cs s (suc (suc (suc k))) = rw (lt-leb (suc (suc (suc k))) 2 (omega arith))
 
-pub too-many : (counts children : List ℕ) (i : ℕ) → 2 < getD counts i 0 → false ≡ sound-edges counts children i
-too-many counts children i h = rw (lt-leb _ _ h)
+-- as the code asks it, of both slots at once
+pub both-slots : (counts children : List ℕ) (i : ℕ) → let k = getD counts i 0 in ((leb k 2 && (ltb k 1 || ltb (getD children (slot i) 0) i)) && (ltb k 2 || ltb (getD children (slot i + 1) 0) i)) ≡ sound-edges counts children i
+both-slots counts children i = slots-below i children (slot i) (getD counts i 0)
 
 pub by-edges : (counts children : List ℕ) (i : ℕ) → getD counts i 0 ≤ 2 → sound-edges counts children i ≡ below-between i children (slot i) (slot i + getD counts i 0)
 by-edges counts children i h =
@@ -94,14 +95,12 @@ module _ (counts children : List ℕ) (i end : ℕ) where
   sound-first : i < end → sound-from counts children i end ≡ (sound-edges counts children i && sound-from counts children (i + 1) end)
   sound-first h = ap (λ is. all (map (sound-edges counts children) is)) (indexes-first i end h)
 
-  pub unsound-refused : i < end → sound-edges counts children i ≡ false → sound-from counts children i end ≡ false
-  unsound-refused h e = sound-first h ∙ rw e
+  -- b says of the nodes before i whether they are sound, and x says it of node i
+  pub sound-next : (b x : Bool) → x ≡ sound-edges counts children i → i < end → ((b && x) && sound-from counts children (i + 1) end) ≡ (b && sound-from counts children i end)
+  sound-next b x e h = and-assoc b x _ ∙ ap (b &&_) (ap (λ x. x && sound-from counts children (i + 1) end) e ∙ sym (sound-first h))
 
-  pub sound-next : i < end → sound-edges counts children i ≡ true → sound-from counts children i end ≡ sound-from counts children (i + 1) end
-  sound-next h e = sound-first h ∙ rw e
-
-  pub sound-done : end ≤ i → sound-from counts children i end ≡ true
-  sound-done h = rw (nothing-left i end h)
+  pub sound-done : (b : Bool) → end ≤ i → (b && sound-from counts children i end) ≡ b
+  sound-done b h = rw (nothing-left i end h, and-true b)
 
 pub room-at : (span : Span) (counts children : List ℕ) (i : ℕ) → Within span counts children → i < span .end → EdgeRoom i counts children
 room-at span counts children i w h = record { small = omega (arith, w .small); count = omega (arith, w .count); child = omega (arith, w .child) }

@@ -168,32 +168,23 @@ fn is_sound_between(span: Span, count: &[u8], child: &[u16]) -> bool
     requires { ⌜ Within span (now count) (now child) ⌝ }
     ensures { λ x. ⌜ x ≡ all-sound (now (count .entry)) (now (child .entry)) span ⌝ }
 {
+    let mut sound = true;
     let mut i = span.from;
     while i < span.end {
-        if !is_sound(i, count, child) {
-            return false;
-        }
+        sound = sound & is_sound(i, count, child);
         i += 1;
     }
-    true
+    sound
 }
 
-// Whether a node has at most two edges, each to a node below it.
+// Whether a node has at most two edges, each to a node below it. There is no branch in it: no processor foretells how many edges a node has, and every pass asks this of every node.
 fn is_sound(i: usize, count: &[u8], child: &[u16]) -> bool
     requires { ⌜ EdgeRoom i (now count) (now child) ⌝ }
     ensures { λ x. ⌜ x ≡ sound-edges (now (count .entry)) (now (child .entry)) i ⌝ }
 {
     let edges = count[i] as usize;
-    if MOST_EDGES < edges {
-        return false;
-    }
-    let end = MOST_EDGES * i + edges;
-    let mut slot = MOST_EDGES * i;
-    while slot < end {
-        if i <= child[slot] as usize {
-            return false;
-        }
-        slot += 1;
-    }
-    true
+    let slot = MOST_EDGES * i;
+    let first = child[slot] as usize;
+    let second = child[slot + 1] as usize;
+    (edges <= MOST_EDGES) & ((edges < 1) | (first < i)) & ((edges < 2) | (second < i))
 }
