@@ -1,0 +1,40 @@
+-- `lay_out` is safe and ends: the loop's index stays within the nodes.
+use Prim.Native.Nat.{_≤_, _-_}
+use borrow.Author.Needs.{needs}
+use Rattle.speed.proofs.plan.lay_out.Statement.{statement}
+use Rattle.speed.proofs.plan.lay_out.Tie as tie
+
+abbrev Inv-loop : tie.InvT-loop
+Inv-loop reach op₀ left₀ right₀ plain₀ worth₀ draw₀ i₀ op left right plain worth draw i = i ≤ 65535
+
+abbrev μ-loop : tie.MeasureT-loop
+μ-loop reach op₀ left₀ right₀ plain₀ worth₀ draw₀ i₀ op left right plain worth draw i = 65535 - i
+
+pub lay-out-spec : {M : Type 1} → statement M
+lay-out-spec =
+    tie.close
+    (tie.spec
+    Inv-loop
+    μ-loop
+    (λ c. search needs)
+    (λ c κs. search needs)
+    (λ c κs. search needs)
+    (λ c κs. search needs)
+    (λ c κs. search needs)
+    (λ c κs. search needs)
+    (λ c κs. search needs)
+    (λ c. search needs)
+    (λ c. search needs)
+    (λ c. search needs)
+    (λ c. search needs)
+    (λ c. search needs)
+    (λ c. search needs)
+    (λ c. search needs)
+    (λ c. search needs)
+    (λ c. search needs)
+    (λ c. search needs)
+    (λ c. search needs)
+    (λ c. search needs)
+    (λ c. search needs)
+    (λ c. search needs)
+    (λ c. search needs))

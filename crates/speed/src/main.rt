@@ -1,0 +1,70 @@
+// Records, walks and rewinds a full tape as often as it is told. A line of standard input names a plan of operands and a number of rounds, as `near 100`, and a line of output says what
+// they came to. There is no clock here: bench/run measures from outside, this program and the Rust alike (docs/SPEED.md).
+mod orders;
+mod plan;
+mod report;
+mod rounds;
+
+use orders::Order;
+use plan::NODES;
+
+const SLOTS: usize = 2 * NODES;
+
+fn main() {
+    let mut space = io::buffer();
+    let length = io::read_full(libc::STDIN_FILENO, &mut space);
+    each_line(&space[..length]);
+}
+
+fn each_line(text: &[u8]) {
+    let mut order = orders::NONE;
+    for i in 0..text.len() {
+        if text[i] == b'\n' {
+            run(order);
+            order = orders::NONE;
+        } else {
+            order = order.with(text[i]);
+        }
+    }
+}
+
+fn run(order: Order) {
+    let mut op = [0u8; NODES];
+    let mut left = [0u16; NODES];
+    let mut right = [0u16; NODES];
+    let mut plain = [0.0; NODES];
+    let reach = order.reach;
+    plan::lay_out(reach, &mut op, &mut left, &mut right, &mut plain);
+    repeat(order, &op, &left, &right, &plain);
+}
+
+fn repeat(
+    order: Order,
+    op: &[u8; NODES],
+    left: &[u16; NODES],
+    right: &[u16; NODES],
+    plain: &[f64; NODES],
+) {
+    let mut value = [0.0; NODES];
+    let mut adjoint = [0.0; NODES];
+    let mut serial = [0u64; NODES];
+    let mut count = [0u8; NODES];
+    let mut child = [0u16; SLOTS];
+    let mut partial = [0.0; SLOTS];
+    let mut serials = [0u64; NODES];
+    let edges = rounds::repeat(
+        order.times,
+        &mut value,
+        &mut adjoint,
+        &mut serial,
+        &mut count,
+        &mut child,
+        &mut partial,
+        op,
+        left,
+        right,
+        plain,
+        &mut serials,
+    );
+    report::rounds(order, edges, &value, &adjoint);
+}

@@ -1,0 +1,217 @@
+// What is recorded: operations 1 to 7 mixed, in blocks of 16 nodes behind 15 leaves. A block's last node adds what the block came to to the sum of those before it, so that the last adjoint
+// reaches every block; the values in a block stay of moderate size and a block is short, so that nothing overflows on the way down.
+ghost use Prim.Native.Nat.{_≤_, _<_};
+
+pub const NODES: usize = 65_535;
+
+const BLOCK: usize = 16;
+
+// The nodes before the first block: leaves, of which the last begins the sum.
+const LEAVES: usize = BLOCK - 1;
+
+// The place of no node: the plain number stands in its stead.
+const PLAIN: usize = NODES;
+
+pub const SEED: u64 = 0x9e37_79b9_7f4a_7c15;
+
+// Below 2^16 this gives the same number in each of the four parts of a draw.
+const IN_EACH_PART: u64 = 0x0001_0001_0001_0001;
+
+const LEAF: u8 = 0;
+
+const ADD: u8 = 1;
+
+const MAX: u8 = 5;
+
+const NEGATE: u8 = 7;
+
+// Where operands lie: anywhere in the node's own block, anywhere below the node, or next before it.
+pub enum Reach {
+    Near,
+    Anywhere,
+    Regular,
+}
+
+// A node to be recorded: its operation, where its operands lie, and the plain number.
+pub struct Recording {
+    pub op: u8,
+    pub left: usize,
+    pub right: usize,
+    pub plain: f64,
+}
+
+// Plans every node.
+pub(crate) fn lay_out(
+    reach: Reach,
+    op: &mut [u8; NODES],
+    left: &mut [u16; NODES],
+    right: &mut [u16; NODES],
+    plain: &mut [f64; NODES],
+) {
+    let mut worth = [0.0; NODES];
+    let mut draw = SEED;
+    for i in 0..NODES {
+        draw = next(draw);
+        let drawn = planned(reach, i, draw);
+        let l = worth_at(&worth, drawn.left, drawn.plain);
+        let r = worth_at(&worth, drawn.right, drawn.plain);
+        let node = settled(drawn, i, l, r);
+        worth[i] = result(node.op, l, r);
+        op[i] = node.op;
+        left[i] = node.left as u16;
+        right[i] = node.right as u16;
+        plain[i] = node.plain;
+    }
+}
+
+// The generator xorshift64.
+pub(crate) fn next(x: u64) -> u64 {
+    let a = x ^ x << 13;
+    let b = a ^ a >> 7;
+    b ^ b << 17
+}
+
+// One of the four parts of a draw, brought below an end.
+fn part(draw: u64, shift: u32, end: usize) -> usize
+    requires { ⌜ (shift < 64) × (0 < end) ⌝ }
+    ensures { λ x. ⌜ x < end ⌝ }
+{
+    (draw >> shift & 0xffff) as usize % end
+}
+
+fn planned(reach: Reach, i: usize, draw: u64) -> Recording
+    requires { ⌜ i < 65535 ⌝ }
+    ensures { λ x. ⌜ (x .left ≤ 65535) × (x .right ≤ 65535) ⌝ }
+{
+    if i < LEAVES {
+        return leaf(i);
+    }
+    let place = (i + 1) % BLOCK;
+    if place == LEAVES {
+        return sum(i);
+    }
+    match reach {
+        Reach::Near => mixed(draw, near(i, place, draw, 0), near(i, place, draw, 16)),
+        Reach::Anywhere => mixed(draw, part(draw, 0, i), part(draw, 16, i)),
+        Reach::Regular => mixed(
+            i as u64 * IN_EACH_PART,
+            before(i, place, 1),
+            before(i, place, 2),
+        ),
+    }
+}
+
+fn leaf(i: usize) -> Recording
+    requires { ⌜ i < 15 ⌝ }
+    ensures { λ x. ⌜ (x .left ≤ 65535) × (x .right ≤ 65535) ⌝ }
+{
+    Recording {
+        op: LEAF,
+        left: PLAIN,
+        right: PLAIN,
+        plain: (16 + i) as u16 as f64 / 16.0,
+    }
+}
+
+fn sum(i: usize) -> Recording
+    requires { ⌜ (16 ≤ i) × (i < 65535) ⌝ }
+    ensures { λ x. ⌜ (x .left ≤ 65535) × (x .right ≤ 65535) ⌝ }
+{
+    Recording {
+        op: ADD,
+        left: i - BLOCK,
+        right: i - 1,
+        plain: 0.0,
+    }
+}
+
+fn mixed(draw: u64, left: usize, right: usize) -> Recording
+    requires { ⌜ (left ≤ 65535) × (right ≤ 65535) ⌝ }
+    ensures { λ x. ⌜ (x .left ≤ 65535) × (x .right ≤ 65535) ⌝ }
+{
+    Recording {
+        op: 1 + part(draw, 48, 7) as u8,
+        left,
+        right: right_or_plain(right, draw),
+        plain: (384 + part(draw, 40, 256)) as u16 as f64 / 256.0,
+    }
+}
+
+// One right operand in four is plain.
+fn right_or_plain(right: usize, draw: u64) -> usize
+    requires { ⌜ right ≤ 65535 ⌝ }
+    ensures { λ x. ⌜ x ≤ 65535 ⌝ }
+{
+    if part(draw, 32, 4) == 0 {
+        return PLAIN;
+    }
+    right
+}
+
+// A node of the same block, or for a block's first node a leaf.
+fn near(i: usize, place: usize, draw: u64, shift: u32) -> usize
+    requires { ⌜ (place ≤ i) × (i < 65535) × (shift < 64) ⌝ }
+    ensures { λ x. ⌜ x ≤ 65535 ⌝ }
+{
+    if place == 0 {
+        return part(draw, shift, LEAVES);
+    }
+    i - 1 - part(draw, shift, place)
+}
+
+// The node so many before, or where that is in another block a leaf.
+fn before(i: usize, place: usize, back: usize) -> usize
+    requires { ⌜ (place ≤ i) × (i < 65535) ⌝ }
+    ensures { λ x. ⌜ x ≤ 65535 ⌝ }
+{
+    if place < back {
+        return i / BLOCK % LEAVES;
+    }
+    i - back
+}
+
+fn worth_at(worth: &[f64; NODES], at: usize, plain: f64) -> f64 {
+    if at < NODES { worth[at] } else { plain }
+}
+
+// Leaves and sums stay as they are.
+fn settled(node: Recording, i: usize, l: f64, r: f64) -> Recording
+    requires { ⌜ (i < 65535) × (node .left ≤ 65535) × (node .right ≤ 65535) ⌝ }
+    ensures { λ x. ⌜ (x .left ≤ 65535) × (x .right ≤ 65535) ⌝ }
+{
+    if (i < LEAVES) | ((i + 1) % BLOCK == LEAVES) {
+        return node;
+    }
+    moderate(node, l, r)
+}
+
+// Negation in place of an operation whose result would be large or small, or of a maximum or minimum of equals, whose partials are a matter of their own.
+fn moderate(node: Recording, l: f64, r: f64) -> Recording
+    requires { ⌜ (node .left ≤ 65535) × (node .right ≤ 65535) ⌝ }
+    ensures { λ x. ⌜ (x .left ≤ 65535) × (x .right ≤ 65535) ⌝ }
+{
+    let mut kept = node;
+    let x = result(node.op, l, r);
+    let is_tie = (MAX <= node.op) & (l == r);
+    if is_tie | !is_moderate(x) & !is_moderate(0.0 - x) {
+        kept.op = NEGATE;
+    }
+    kept
+}
+
+fn is_moderate(x: f64) -> bool {
+    (1.0 / 64.0 <= x) & (x <= 64.0)
+}
+
+fn result(op: u8, l: f64, r: f64) -> f64 {
+    match op {
+        1 => l + r,
+        2 => l - r,
+        3 => l * r,
+        4 => l / r,
+        5 => if l >= r { l } else { r },
+        6 => if l <= r { l } else { r },
+        7 => 0.0 - l,
+        _ => l,
+    }
+}

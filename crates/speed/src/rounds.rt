@@ -1,0 +1,226 @@
+// A round: a full tape recorded by its plan, walked from its last node, and rewound.
+use crate::plan::NODES;
+use dual::Passed;
+use expr::Recorded;
+use expr::Supplied;
+use expr::recording::record;
+use tape::Handle;
+use tape::Moved;
+use tape::Operand;
+use tape::Tape;
+ghost use Prim.Native.Nat.{_<_};
+
+const NOTHING: Supplied = Supplied {
+    value: 0.0,
+    left: 0.0,
+    right: 0.0,
+};
+
+// The tape after a round, and the edges that its walk visited.
+pub struct Round {
+    pub tape: Tape,
+    pub edges: u32,
+}
+
+// As many rounds as asked for, and the edges that the last walk visited. Nothing is cleared between them.
+pub(crate) fn repeat(
+    times: u64,
+    value: &mut [f64],
+    adjoint: &mut [f64],
+    serial: &mut [u64],
+    count: &mut [u8],
+    child: &mut [u16],
+    partial: &mut [f64],
+    op: &[u8; NODES],
+    left: &[u16; NODES],
+    right: &[u16; NODES],
+    plain: &[f64; NODES],
+    serials: &mut [u64; NODES],
+) -> u32 {
+    let mut done = Round {
+        tape: moved(Tape::new().start_recording()),
+        edges: 0,
+    };
+    for _ in 0..times {
+        done = one_more(
+            done,
+            value,
+            adjoint,
+            serial,
+            count,
+            child,
+            partial,
+            op,
+            left,
+            right,
+            plain,
+            serials,
+        );
+    }
+    done.edges
+}
+
+fn one_more(
+    before: Round,
+    value: &mut [f64],
+    adjoint: &mut [f64],
+    serial: &mut [u64],
+    count: &mut [u8],
+    child: &mut [u16],
+    partial: &mut [f64],
+    op: &[u8; NODES],
+    left: &[u16; NODES],
+    right: &[u16; NODES],
+    plain: &[f64; NODES],
+    serials: &mut [u64; NODES],
+) -> Round {
+    let start = before.tape;
+    let tape = record_all(
+        start,
+        value,
+        adjoint,
+        serial,
+        count,
+        child,
+        partial,
+        op,
+        left,
+        right,
+        plain,
+        serials,
+    );
+    let edges = walk(
+        tape,
+        value,
+        adjoint,
+        serial,
+        count,
+        child,
+        partial,
+        &*serials,
+    );
+    Round {
+        tape: moved(tape.rewind_to_init()),
+        edges,
+    }
+}
+
+fn record_all(
+    before: Tape,
+    value: &mut [f64],
+    adjoint: &mut [f64],
+    serial: &mut [u64],
+    count: &mut [u8],
+    child: &mut [u16],
+    partial: &mut [f64],
+    op: &[u8; NODES],
+    left: &[u16; NODES],
+    right: &[u16; NODES],
+    plain: &[f64; NODES],
+    serials: &mut [u64; NODES],
+) -> Tape {
+    let mut tape = before;
+    for i in 0..NODES {
+        tape = record_one(
+            tape,
+            value,
+            adjoint,
+            serial,
+            count,
+            child,
+            partial,
+            i,
+            op,
+            left,
+            right,
+            plain,
+            serials,
+        );
+    }
+    tape
+}
+
+fn record_one(
+    tape: Tape,
+    value: &mut [f64],
+    adjoint: &mut [f64],
+    serial: &mut [u64],
+    count: &mut [u8],
+    child: &mut [u16],
+    partial: &mut [f64],
+    i: usize,
+    op: &[u8; NODES],
+    left: &[u16; NODES],
+    right: &[u16; NODES],
+    plain: &[f64; NODES],
+    serials: &mut [u64; NODES],
+) -> Tape
+    requires { ⌜ i < 65535 ⌝ }
+{
+    let l = operand(left[i], plain[i], &*serials);
+    let r = operand(right[i], plain[i], &*serials);
+    let answer = record(
+        tape,
+        value,
+        adjoint,
+        serial,
+        count,
+        child,
+        partial,
+        op[i],
+        l,
+        r,
+        NOTHING,
+    );
+    kept(answer, i, serials)
+}
+
+// The caller keeps the serials of its handles; their indexes are the places where it keeps them.
+fn kept(answer: Recorded, i: usize, serials: &mut [u64; NODES]) -> Tape
+    requires { ⌜ i < 65535 ⌝ }
+{
+    match answer {
+        Recorded::Node(_, handle, after) => {
+            serials[i] = handle.serial;
+            after
+        }
+        Recorded::Detached(_, after) => after,
+        Recorded::Refused(_, after) => after,
+    }
+}
+
+fn walk(
+    tape: Tape,
+    value: &[f64],
+    adjoint: &mut [f64],
+    serial: &[u64],
+    count: &[u8],
+    child: &[u16],
+    partial: &[f64],
+    serials: &[u64; NODES],
+) -> u32 {
+    let last = operand(65_534, 0.0, serials);
+    match dual::passes::backward(tape, value, adjoint, serial, count, child, partial, last) {
+        Passed::Visited(edges) => edges,
+        Passed::Refused(_) => 0,
+    }
+}
+
+// The node at a place, or the plain number where that is no node's place.
+fn operand(at: u16, plain: f64, serials: &[u64; NODES]) -> Operand {
+    let index = at as usize;
+    if index < NODES {
+        return Operand::Node(Handle {
+            index,
+            serial: serials[index],
+        });
+    }
+    Operand::Number(plain)
+}
+
+fn moved(answer: Moved) -> Tape {
+    match answer {
+        Moved::Done(tape) => tape,
+        Moved::Refused(_, tape) => tape,
+    }
+}
