@@ -29,22 +29,14 @@ fn each_line(text: &[u8]) {
 }
 
 fn run(order: Order) {
-    let mut op = [0u8; NODES];
-    let mut left = [0u16; NODES];
-    let mut right = [0u16; NODES];
+    let mut word = [0u64; NODES];
     let mut plain = [0.0; NODES];
     let reach = order.reach;
-    plan::lay_out(reach, &mut op, &mut left, &mut right, &mut plain);
-    repeat(order, &op, &left, &right, &plain);
+    plan::lay_out(reach, &mut word, &mut plain);
+    repeat(order, &word, &plain);
 }
 
-fn repeat(
-    order: Order,
-    op: &[u8; NODES],
-    left: &[u16; NODES],
-    right: &[u16; NODES],
-    plain: &[f64; NODES],
-) {
+fn repeat(order: Order, word: &[u64; NODES], plain: &[f64; NODES]) {
     let mut value = [0.0; NODES];
     let mut adjoint = [0.0; NODES];
     let mut serial = [0u64; NODES];
@@ -60,9 +52,7 @@ fn repeat(
         &mut count,
         &mut child,
         &mut partial,
-        op,
-        left,
-        right,
+        word,
         plain,
         &mut serials,
     );

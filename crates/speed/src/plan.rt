@@ -40,14 +40,8 @@ pub struct Recording {
     pub plain: f64,
 }
 
-// Plans every node.
-pub(crate) fn lay_out(
-    reach: Reach,
-    op: &mut [u8; NODES],
-    left: &mut [u16; NODES],
-    right: &mut [u16; NODES],
-    plain: &mut [f64; NODES],
-) {
+// Plans every node: a word for its operation and the places of its operands, and its plain number.
+pub(crate) fn lay_out(reach: Reach, word: &mut [u64; NODES], plain: &mut [f64; NODES]) {
     let mut worth = [0.0; NODES];
     let mut draw = SEED;
     for i in 0..NODES {
@@ -57,10 +51,28 @@ pub(crate) fn lay_out(
         let r = worth_at(&worth, drawn.right, drawn.plain);
         let node = settled(drawn, i, l, r);
         worth[i] = result(node.op, l, r);
-        op[i] = node.op;
-        left[i] = node.left as u16;
-        right[i] = node.right as u16;
+        word[i] = node.word();
         plain[i] = node.plain;
+    }
+}
+
+pub(crate) fn op_of(word: u64) -> u8 {
+    (word % 256) as u8
+}
+
+pub(crate) fn left_of(word: u64) -> usize {
+    (word >> 8 & 0xffff) as usize
+}
+
+pub(crate) fn right_of(word: u64) -> usize {
+    (word >> 24) as usize
+}
+
+impl Recording {
+    fn word(self) -> u64
+        requires { ⌜ (self .left ≤ 65535) × (self .right ≤ 65535) ⌝ }
+    {
+        self.op as u64 | (self.left as u64) << 8 | (self.right as u64) << 24
     }
 }
 

@@ -1,5 +1,8 @@
 // A round: a full tape recorded by its plan, walked from its last node, and rewound.
 use crate::plan::NODES;
+use crate::plan::left_of;
+use crate::plan::op_of;
+use crate::plan::right_of;
 use dual::Passed;
 use expr::Recorded;
 use expr::Supplied;
@@ -31,9 +34,7 @@ pub(crate) fn repeat(
     count: &mut [u8],
     child: &mut [u16],
     partial: &mut [f64],
-    op: &[u8; NODES],
-    left: &[u16; NODES],
-    right: &[u16; NODES],
+    word: &[u64; NODES],
     plain: &[f64; NODES],
     serials: &mut [u64; NODES],
 ) -> u32 {
@@ -50,9 +51,7 @@ pub(crate) fn repeat(
             count,
             child,
             partial,
-            op,
-            left,
-            right,
+            word,
             plain,
             serials,
         );
@@ -68,9 +67,7 @@ fn one_more(
     count: &mut [u8],
     child: &mut [u16],
     partial: &mut [f64],
-    op: &[u8; NODES],
-    left: &[u16; NODES],
-    right: &[u16; NODES],
+    word: &[u64; NODES],
     plain: &[f64; NODES],
     serials: &mut [u64; NODES],
 ) -> Round {
@@ -83,9 +80,7 @@ fn one_more(
         count,
         child,
         partial,
-        op,
-        left,
-        right,
+        word,
         plain,
         serials,
     );
@@ -113,9 +108,7 @@ fn record_all(
     count: &mut [u8],
     child: &mut [u16],
     partial: &mut [f64],
-    op: &[u8; NODES],
-    left: &[u16; NODES],
-    right: &[u16; NODES],
+    word: &[u64; NODES],
     plain: &[f64; NODES],
     serials: &mut [u64; NODES],
 ) -> Tape {
@@ -130,10 +123,8 @@ fn record_all(
             child,
             partial,
             i,
-            op,
-            left,
-            right,
-            plain,
+            word[i],
+            plain[i],
             serials,
         );
     }
@@ -149,16 +140,14 @@ fn record_one(
     child: &mut [u16],
     partial: &mut [f64],
     i: usize,
-    op: &[u8; NODES],
-    left: &[u16; NODES],
-    right: &[u16; NODES],
-    plain: &[f64; NODES],
+    word: u64,
+    plain: f64,
     serials: &mut [u64; NODES],
 ) -> Tape
     requires { ⌜ i < 65535 ⌝ }
 {
-    let l = operand(left[i], plain[i], &*serials);
-    let r = operand(right[i], plain[i], &*serials);
+    let l = operand(left_of(word), plain, &*serials);
+    let r = operand(right_of(word), plain, &*serials);
     let answer = record(
         tape,
         value,
@@ -167,7 +156,7 @@ fn record_one(
         count,
         child,
         partial,
-        op[i],
+        op_of(word),
         l,
         r,
         NOTHING,
@@ -199,7 +188,7 @@ fn walk(
     partial: &[f64],
     serials: &[u64; NODES],
 ) -> u32 {
-    let last = operand(65_534, 0.0, serials);
+    let last = operand(NODES - 1, 0.0, serials);
     match dual::passes::backward(tape, value, adjoint, serial, count, child, partial, last) {
         Passed::Visited(edges) => edges,
         Passed::Refused(_) => 0,
@@ -207,8 +196,7 @@ fn walk(
 }
 
 // The node at a place, or the plain number where that is no node's place.
-fn operand(at: u16, plain: f64, serials: &[u64; NODES]) -> Operand {
-    let index = at as usize;
+fn operand(index: usize, plain: f64, serials: &[u64; NODES]) -> Operand {
     if index < NODES {
         return Operand::Node(Handle {
             index,

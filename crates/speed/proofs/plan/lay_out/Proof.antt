@@ -5,10 +5,10 @@ use Rattle.speed.proofs.plan.lay_out.Statement.{statement}
 use Rattle.speed.proofs.plan.lay_out.Tie as tie
 
 abbrev Inv-loop : tie.InvT-loop
-Inv-loop reach op₀ left₀ right₀ plain₀ worth₀ draw₀ i₀ op left right plain worth draw i = i ≤ 65535
+Inv-loop reach word₀ plain₀ worth₀ draw₀ i₀ word plain worth draw i = i ≤ 65535
 
 abbrev μ-loop : tie.MeasureT-loop
-μ-loop reach op₀ left₀ right₀ plain₀ worth₀ draw₀ i₀ op left right plain worth draw i = 65535 - i
+μ-loop reach word₀ plain₀ worth₀ draw₀ i₀ word plain worth draw i = 65535 - i
 
 pub lay-out-spec : {M : Type 1} → statement M
 lay-out-spec =
@@ -25,11 +25,7 @@ lay-out-spec =
     (λ c κs. search needs)
     (λ c. search needs)
     (λ c. search needs)
-    (λ c. search needs)
-    (λ c. search needs)
-    (λ c. search needs)
-    (λ c. search needs)
-    (λ c. search needs)
+    (λ c κs. search needs)
     (λ c. search needs)
     (λ c. search needs)
     (λ c. search needs)

@@ -7,7 +7,7 @@ use Rattle.speed.proofs.rounds.record_all.Statement.{statement}
 use Rattle.speed.proofs.rounds.record_all.Tie as tie
 
 abbrev Inv-loop : tie.InvT-loop
-Inv-loop value₀ adjoint₀ serial₀ count₀ child₀ partial₀ op left right plain serials₀ tape₀ i₀ value adjoint serial count child partial serials tape i =
+Inv-loop value₀ adjoint₀ serial₀ count₀ child₀ partial₀ word plain serials₀ tape₀ i₀ value adjoint serial count child partial serials tape i =
     (i ≤ 65535)
     × (length value ≡ length value₀)
     × (length adjoint ≡ length adjoint₀)
@@ -17,7 +17,7 @@ Inv-loop value₀ adjoint₀ serial₀ count₀ child₀ partial₀ op left righ
     × (length partial ≡ length partial₀)
 
 abbrev μ-loop : tie.MeasureT-loop
-μ-loop value₀ adjoint₀ serial₀ count₀ child₀ partial₀ op left right plain serials₀ tape₀ i₀ value adjoint serial count child partial serials tape i = 65535 - i
+μ-loop value₀ adjoint₀ serial₀ count₀ child₀ partial₀ word plain serials₀ tape₀ i₀ value adjoint serial count child partial serials tape i = 65535 - i
 
 pub record-all-spec : {M : Type 1} → statement M
 record-all-spec =
@@ -25,6 +25,10 @@ record-all-spec =
     (tie.spec
     Inv-loop
     μ-loop
+    (λ c. search needs)
+    (λ c. search needs)
+    (λ c. search needs)
+    (λ c. search needs)
     (λ c. search needs)
     (λ c κs. search needs)
     (λ c. search needs)

@@ -7,7 +7,7 @@ use Rattle.speed.proofs.rounds.repeat.Statement.{statement}
 use Rattle.speed.proofs.rounds.repeat.Tie as tie
 
 abbrev Inv-loop : tie.InvT-loop
-Inv-loop times value₀ adjoint₀ serial₀ count₀ child₀ partial₀ op left right plain serials₀ done₀ counter₀ value adjoint serial count child partial serials done counter =
+Inv-loop times value₀ adjoint₀ serial₀ count₀ child₀ partial₀ word plain serials₀ done₀ counter₀ value adjoint serial count child partial serials done counter =
     (counter ≤ times)
     × (times ≤ 18446744073709551615)
     × (length value ≡ length value₀)
@@ -18,7 +18,7 @@ Inv-loop times value₀ adjoint₀ serial₀ count₀ child₀ partial₀ op lef
     × (length partial ≡ length partial₀)
 
 abbrev μ-loop : tie.MeasureT-loop
-μ-loop times value₀ adjoint₀ serial₀ count₀ child₀ partial₀ op left right plain serials₀ done₀ counter₀ value adjoint serial count child partial serials done counter = times - counter
+μ-loop times value₀ adjoint₀ serial₀ count₀ child₀ partial₀ word plain serials₀ done₀ counter₀ value adjoint serial count child partial serials done counter = times - counter
 
 pub repeat-spec : {M : Type 1} → statement M
 repeat-spec =
