@@ -3,6 +3,7 @@
 //! The modules `ad` and `utils` are the files of the folder that `INGTHABOR_RUST` names; build.rs
 //! writes their paths. The others are ours.
 
+pub mod draw;
 pub mod operations;
 pub mod random;
 pub mod session;

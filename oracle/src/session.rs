@@ -2,8 +2,10 @@
 //! what the Rust answered.
 
 use std::fmt::{Display, Write};
+use std::ptr::NonNull;
 
 use crate::ad::dual::Dual;
+use crate::ad::node::TapeNode;
 use crate::ad::tape::{Tape, TAPE};
 use crate::operations::Kind;
 use crate::words::{bits, digest, short};
@@ -23,6 +25,13 @@ pub enum Pass {
     BackwardMarkToStart(usize),
     PropagateToMark,
     PropagateMarkToStart,
+}
+
+/// One word for the values on a tape, one for the adjoints.
+#[derive(Clone, Copy, PartialEq, Eq)]
+pub struct Digests {
+    pub values: u64,
+    pub adjoints: u64,
 }
 
 /// The calls that start, stop, mark and rewind, by their names.
@@ -78,11 +87,46 @@ impl Session {
         adjoint.expect("the value has a node")
     }
 
+    /// How many nodes were recorded, whether they are still on the tape or not.
+    #[must_use]
+    pub fn recorded(&self) -> usize {
+        self.recorded.len()
+    }
+
+    /// How many calls were made.
+    #[must_use]
+    pub fn calls(&self) -> usize {
+        self.text.lines().count()
+    }
+
+    /// The digests of the values and of the adjoints of the first nodes on the tape. The Rust keeps
+    /// a value beside its node, so that the values are those of the recorded numbers.
+    #[must_use]
+    pub fn digests(&self, nodes: usize) -> Digests {
+        let on_tape = || self.live.iter().map(|&n| self.recorded[n - 1]);
+        let values = digest(on_tape().take(nodes).map(|x| bits(x.value())));
+        let adjoints = TAPE.with(|tape| {
+            let book = &tape.borrow().book;
+            let pointers = on_tape().map(|x| x.node_ptr());
+            assert!(pointers.eq(book.iter().map(|&p| Some(p))));
+            let firsts = book.iter().take(nodes);
+            digest(firsts.map(|p| bits(unsafe { p.as_ref() }.adj)))
+        });
+        Digests { values, adjoints }
+    }
+
     /// The lines, with the last one, `end`, and the empty one that ends a sequence.
     #[must_use]
-    pub fn ended(mut self) -> String {
+    pub fn ended(self) -> String {
+        let digests = self.digests(self.live.len());
+        self.ended_with(digests)
+    }
+
+    /// The same with these digests at the end, which may be of another tape.
+    #[must_use]
+    pub fn ended_with(mut self, digests: Digests) -> String {
         self.text.push_str("end");
-        self.say_digests();
+        self.say_digests(digests);
         self.text + "\n"
     }
 
@@ -107,8 +151,7 @@ impl Session {
         let form = form.expect("the operation has the form");
         let (left, right) = (given[0], given[given.len() - 1]);
         let made = (form.record)(self.dual(left), self.dual(right));
-        let chooses = matches!(kind.name, "max" | "min");
-        self.departed |= chooses && departs(self.worth(left), self.worth(right));
+        self.departed |= departs(kind.name, self.worth(left), self.worth(right));
         self.text.push_str(kind.name);
         for &operand in given {
             self.say_given(operand);
@@ -138,13 +181,22 @@ impl Session {
             self.say_given(Given::Node(root));
         }
         self.say(format_args!("v{}", self.visited(pass)));
-        self.say_digests();
+        self.say_tape();
     }
 
     pub fn reset_adjoints(&mut self) {
         Tape::reset_adjoints();
         self.text.push_str("reset_adjoints");
-        self.say_digests();
+        self.say_tape();
+    }
+
+    /// Sets a node's adjoint to one and walks nothing, which is no call.
+    pub fn seed(&mut self, node: usize) {
+        let pointer = self.pointer(node);
+        TAPE.with(|tape| {
+            let mut tape = tape.borrow_mut();
+            tape.mut_node(pointer).expect("it is on the tape").adj = 1.0;
+        });
     }
 
     pub fn value(&mut self, given: Given) {
@@ -202,10 +254,14 @@ impl Session {
         })
     }
 
+    fn pointer(&self, node: usize) -> NonNull<TapeNode<f64>> {
+        let pointer = self.recorded[node - 1].node_ptr();
+        pointer.expect("the value has a node")
+    }
+
     /// Where the Rust has the node of a recorded value.
     fn index(&self, node: usize) -> usize {
-        let pointer = self.recorded[node - 1].node_ptr();
-        let pointer = pointer.expect("the value has a node");
+        let pointer = self.pointer(node);
         TAPE.with(|tape| tape.borrow().node(pointer).expect("it is on the tape").idx)
     }
 
@@ -220,20 +276,16 @@ impl Session {
         }
     }
 
-    /// The digests of all values and of all adjoints on the tape, and the line's end. The Rust keeps
-    /// a value beside its node, so that the values are those of the recorded numbers.
-    fn say_digests(&mut self) {
-        let on_tape: Vec<Dual<f64>> = self.live.iter().map(|&n| self.recorded[n - 1]).collect();
-        let values = digest(on_tape.iter().map(|x| bits(x.value())));
-        let adjoints = TAPE.with(|tape| {
-            let tape = tape.borrow();
-            let pointers = on_tape.iter().map(|x| x.node_ptr());
-            assert!(pointers.eq(tape.book.iter().map(|&p| Some(p))));
-            digest(tape.book.iter().map(|p| bits(unsafe { p.as_ref() }.adj)))
-        });
-        self.say(short(values));
-        self.say(short(adjoints));
+    /// The digests, and the line's end.
+    fn say_digests(&mut self, digests: Digests) {
+        self.say(short(digests.values));
+        self.say(short(digests.adjoints));
         self.text.push('\n');
+    }
+
+    /// The digests of the whole tape, and the line's end.
+    fn say_tape(&mut self) {
+        self.say_digests(self.digests(self.live.len()));
     }
 }
 
@@ -244,7 +296,8 @@ impl Default for Session {
 }
 
 /// The inputs of max and min that docs/DIFFERENCES.md names.
-fn departs(l: f64, r: f64) -> bool {
+#[must_use]
+pub fn departs(operation: &str, l: f64, r: f64) -> bool {
     let zeros = l == 0.0 && r == 0.0 && l.is_sign_negative() != r.is_sign_negative();
-    (r.is_nan() && !l.is_nan()) || zeros
+    matches!(operation, "max" | "min") && ((r.is_nan() && !l.is_nan()) || zeros)
 }

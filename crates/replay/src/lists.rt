@@ -6,7 +6,7 @@ use crate::tally::Tally;
 ghost use Prim.Native.Nat.{_≤_};
 
 // More bytes than any case has, so that one which is cut at so many is none.
-const LONGEST: usize = 32_768;
+const LONGEST: usize = 2_097_152;
 
 // How far the reading has come: what is counted, and how many bytes of a case stand unfinished.
 struct Progress {

@@ -37,6 +37,11 @@ fn recorded() {
         Subject::Sequences,
         os::open_read(b"sequences.txt"),
     );
+    lists::replay(
+        b"sessions",
+        Subject::Sequences,
+        os::open_read(b"sessions.txt"),
+    );
     lists::replay(b"stale", Subject::Stale, os::open_read(b"stale.txt"));
 }
 
@@ -51,5 +56,10 @@ fn controls() {
         b"sequences_control",
         Subject::Sequences,
         os::open_read(b"sequences_control.txt"),
+    );
+    lists::replay(
+        b"sessions_control",
+        Subject::Sequences,
+        os::open_read(b"sessions_control.txt"),
     );
 }

@@ -28,7 +28,7 @@ const CAPACITY: usize = 400;
 const SLOTS: usize = 2 * CAPACITY;
 
 // More nodes than a sequence records.
-const NODES: usize = 512;
+const NODES: usize = 32_768;
 
 // The number of the refusal that a stale handle gets.
 const NOT_LIVE: u64 = 3;
@@ -36,8 +36,6 @@ const NOT_LIVE: u64 = 3;
 // How far a sequence has come.
 struct Run {
     tape: Tape,
-    // Where the port put the node with each serial, which a list counts from 1 as the port does.
-    places: [u16; NODES],
     // Whether another call may come.
     going: bool,
     // Whether a line differs or is no call. What comes after it is left out, since the two tapes may be unlike from there on.
@@ -52,10 +50,13 @@ pub(crate) fn replay(list: &[u8], lines: &[u8], tally: Tally) -> Tally {
     let mut count = [NO_COUNT; CAPACITY];
     let mut child = [NO_CHILD; SLOTS];
     let mut partial = [UNLIKELY; SLOTS];
+    // Where the port put the node with each serial, which a list counts from 1 as the port does.
+    let mut places = [0u16; NODES];
     let run = each_line(
         Run::new(tally),
         list,
         lines,
+        &mut places,
         &mut value,
         &mut adjoint,
         &mut serial,
@@ -70,6 +71,7 @@ fn each_line(
     before: Run,
     list: &[u8],
     lines: &[u8],
+    places: &mut [u16],
     value: &mut [f64],
     adjoint: &mut [f64],
     serial: &mut [u64],
@@ -85,6 +87,7 @@ fn each_line(
             run,
             list,
             &lines[from..end],
+            places,
             value,
             adjoint,
             serial,
@@ -101,6 +104,7 @@ fn one_line(
     before: Run,
     list: &[u8],
     line: &[u8],
+    places: &mut [u16],
     value: &mut [f64],
     adjoint: &mut [f64],
     serial: &mut [u64],
@@ -125,17 +129,52 @@ fn one_line(
         child,
         partial,
         call.kind,
-        run.operand(call.left),
-        run.operand(call.right),
+        operand(&*places, call.left),
+        operand(&*places, call.right),
     );
+    keep(places, heard.node);
     run.judged(list, call, heard)
+}
+
+fn operand(places: &[u16], word: Said) -> Operand {
+    if word.letter == NODE {
+        return Operand::Node(handle(places, word.bits));
+    }
+    Operand::Number(float_of(word.bits))
+}
+
+fn handle(places: &[u16], serial: u64) -> Handle {
+    if serial >= places.len() as u64 {
+        return NO_NODE;
+    }
+    let at = serial as usize;
+    handle_at(places[at], serial)
+}
+
+fn handle_at(index: u16, serial: u64) -> Handle {
+    Handle {
+        index: index as usize,
+        serial,
+    }
+}
+
+// Keeps the place of a node that was recorded.
+fn keep(places: &mut [u16], node: Handle) {
+    if node.serial >= places.len() as u64 {
+        return;
+    }
+    if node.index > 65_535 {
+        return;
+    }
+    let at = node.serial as usize;
+    let index = node.index;
+    places[at] = index as u16;
 }
 
 impl Run {
     fn new(tally: Tally) -> Run {
         Run {
             tape: Tape::new(),
-            places: [0; NODES],
             going: true,
             broken: false,
             tally,
@@ -176,24 +215,6 @@ impl Run {
         run.tally.next_run(run.broken)
     }
 
-    fn operand(self, word: Said) -> Operand {
-        if word.letter == NODE {
-            return Operand::Node(self.handle(word.bits));
-        }
-        Operand::Number(float_of(word.bits))
-    }
-
-    fn handle(self, serial: u64) -> Handle {
-        if serial >= NODES as u64 {
-            return NO_NODE;
-        }
-        let at = serial as usize;
-        Handle {
-            index: self.places[at] as usize,
-            serial,
-        }
-    }
-
     fn judged(self, list: &[u8], call: Call, heard: Heard) -> Run
         requires { ⌜ call .kind < 47 ⌝ }
     {
@@ -209,20 +230,9 @@ impl Run {
         run.broken()
     }
 
-    // The tape as the call left it, with the place of the node that it recorded.
     fn after(mut self, heard: Heard) -> Run {
         let tape = heard.tape;
         self.tape = tape;
-        let node = heard.node;
-        if node.serial >= NODES as u64 {
-            return self;
-        }
-        if node.index > 65_535 {
-            return self;
-        }
-        let at = node.serial as usize;
-        let index = node.index;
-        self.places[at] = index as u16;
         self
     }
 }

@@ -4,37 +4,17 @@ use std::io::{self, BufWriter, Write};
 use std::process::exit;
 
 use oracle::ad::tape::Tape;
+use oracle::draw::{letters, Temper};
 use oracle::operations::{kinds, Kind};
 use oracle::random::Random;
 use oracle::session::{
     Given, Move, Pass, Session, RESET_MARK, REWIND_TO_INIT, REWIND_TO_MARK, SET_MARK, START, STOP,
 };
 
-/// Numbers whose sums with whole ones, or with 1, lie halfway between two floats.
-const HALFWAY: [f64; 4] = [
-    9_007_199_254_740_992.0,
-    9_007_199_254_740_994.0,
-    f64::EPSILON / 2.0,
-    1.0 + f64::EPSILON,
-];
-
-/// What a sequence is like, drawn once for each.
-struct Temper {
-    /// One plain number in so many is special.
-    special: u64,
-    /// Whether NaN and the infinities are among these.
-    infinite: bool,
-    /// One rewind in so many that are drawn is made.
-    rewind: u64,
-}
-
-impl Temper {
-    fn drawn(random: &mut Random) -> Self {
-        Self {
-            special: [40, 12, 5][random.below(3) as usize],
-            infinite: random.once_in(3),
-            rewind: [1, 4, 16][random.below(3) as usize],
-        }
+fn temper(random: &mut Random) -> Temper {
+    Temper {
+        special: [40, 12, 5][random.below(3) as usize],
+        infinite: random.once_in(3),
     }
 }
 
@@ -43,6 +23,8 @@ struct Draft<'a> {
     random: &'a mut Random,
     kinds: &'a [Kind],
     temper: Temper,
+    /// One rewind in so many that are drawn is made.
+    rewind: u64,
     session: Session,
     /// Answers that have no node.
     detached: Vec<f64>,
@@ -69,7 +51,7 @@ impl Draft<'_> {
 
     /// A call that drops nodes, or in a sequence that keeps them more often another recording.
     fn rewind(&mut self, dropping: Move) {
-        if self.random.once_in(self.temper.rewind) {
+        if self.random.once_in(self.rewind) {
             self.session.call(dropping);
         } else {
             self.record();
@@ -84,18 +66,9 @@ impl Draft<'_> {
             let operand = self.operand(given.first().copied());
             given.push(operand);
         }
-        let letters: String = given.iter().map(|&operand| self.letter(operand)).collect();
+        let letters = letters(self.random, &given);
         let detached = self.session.record(kind, &letters, &given);
         self.detached.extend(detached);
-    }
-
-    /// The Rust takes a number that has no node as a constant, and also as a value without one.
-    fn letter(&mut self, operand: Given) -> char {
-        match operand {
-            Given::Node(_) => 'n',
-            Given::Plain(_) if self.random.once_in(3) => 'n',
-            Given::Plain(_) => 'p',
-        }
     }
 
     /// Now and then the same operand again, or a number as large as it.
@@ -132,24 +105,7 @@ impl Draft<'_> {
         if !self.detached.is_empty() && self.random.once_in(4) {
             return self.detached[self.random.below(self.detached.len() as u64) as usize];
         }
-        if self.random.once_in(self.temper.special) {
-            return self.special();
-        }
-        // Whole numbers make short lines.
-        if self.random.once_in(2) {
-            self.random.whole()
-        } else {
-            self.random.tame()
-        }
-    }
-
-    fn special(&mut self) -> f64 {
-        let special = self.random.special();
-        let fits = special.is_finite() || self.temper.infinite;
-        if fits && !self.random.once_in(5) {
-            return special;
-        }
-        HALFWAY[self.random.below(4) as usize]
+        self.temper.number(self.random)
     }
 
     fn read(&mut self) {
@@ -195,7 +151,8 @@ fn length(random: &mut Random) -> u64 {
 fn sequence(random: &mut Random, kinds: &[Kind]) -> Session {
     let calls = length(random);
     let mut draft = Draft {
-        temper: Temper::drawn(random),
+        temper: temper(random),
+        rewind: [1, 4, 16][random.below(3) as usize],
         random,
         kinds,
         session: Session::new(),
