@@ -1,8 +1,10 @@
-// Numbers as text: ticks are read, and rounded decimals are written.
+// Numbers as text: ticks are read, and numbers with decimals are written.
 ghost use mathlib.Core.Path.{_≡_};
-ghost use Prim.Native.Nat.{_+_, _≤_};
+ghost use Prim.Native.Nat.{_+_, _-_, _≤_, _<_};
+ghost use mathlib.Core.List.{_++_};
 ghost use lib.ListN.{length, drop};
-ghost use Rattle.imaging.specs.Text.{number-of, entry-of, rounded-to, decimals-of};
+ghost use Rattle.tape.specs.Listing.{digit as Listing·digit, digits, decimal};
+ghost use Rattle.imaging.specs.Text.{is-digit, number, without, with-decimals, rounded};
 
 // What a line says.
 pub enum Entry {
@@ -11,27 +13,22 @@ pub enum Entry {
     Neither,
 }
 
-pub enum Number {
-    Whole(u32),
-    None,
-}
-
-const MOST_DIGITS: usize = 8;
-
+// The first bytes of a line that begins a revolution: `revolution`, and a space.
 const WORD: usize = 11;
 
-pub(crate) fn entry(line: &[u8]) -> Entry {
-    if !begins_revolution(line) {
-        return interval(number(line));
+pub(crate) fn read_entry(line: &[u8]) -> Entry {
+    if line.len() > WORD {
+        if begins_revolution(line) {
+            return revolution(read_number(&line[WORD..]));
+        }
     }
-    revolution(number(&line[WORD..]))
+    interval(read_number(line))
 }
 
-fn begins_revolution(line: &[u8]) -> bool {
+fn begins_revolution(line: &[u8]) -> bool
+    requires { ⌜ 11 ≤ length (now line) ⌝ }
+{
     let word = b"revolution ";
-    if line.len() < WORD {
-        return false;
-    }
     for i in 0..WORD {
         if line[i] != word[i] {
             return false;
@@ -40,54 +37,64 @@ fn begins_revolution(line: &[u8]) -> bool {
     true
 }
 
-fn interval(number: Number) -> Entry {
-    match number {
-        Number::Whole(n) => Entry::Interval(n),
-        Number::None => Entry::Neither,
+fn revolution(ticks: u32) -> Entry {
+    if ticks == 0 {
+        return Entry::Neither;
     }
+    Entry::Revolution(ticks)
 }
 
-fn revolution(number: Number) -> Entry {
-    match number {
-        Number::Whole(n) => Entry::Revolution(n),
-        Number::None => Entry::Neither,
+fn interval(ticks: u32) -> Entry {
+    if ticks == 0 {
+        return Entry::Neither;
     }
+    Entry::Interval(ticks)
 }
 
-// The number that the digits make, if there are 1 to 8 of them, nothing else stands there and it is not 0.
-fn number(text: &[u8]) -> Number {
+const MOST_DIGITS: usize = 8;
+
+// The number that 1 to 8 digits make. It is 0 where the text is anything else, and 0 ticks are none.
+fn read_number(text: &[u8]) -> u32
+    ensures { λ r. ⌜ r ≡ number (now (text .entry)) ⌝ }
+{
     if text.len() > MOST_DIGITS {
-        return Number::None;
+        return 0;
     }
     let mut n = 0;
     for i in 0..text.len() {
-        let digit = text[i];
-        if digit < b'0' {
-            return Number::None;
+        if !is_digit(text[i]) {
+            return 0;
         }
-        if digit > b'9' {
-            return Number::None;
-        }
-        n = 10 * n + (digit - b'0') as u32;
+        n = 10 * n + digit_of(text[i]);
     }
-    if n == 0 {
-        return Number::None;
-    }
-    Number::Whole(n)
+    n
 }
 
-// The whole digits of 64 bits, a point and nine decimals, and a little more.
-pub const WIDTH: usize = 32;
+fn is_digit(byte: u8) -> bool
+    ensures { λ r. ⌜ r ≡ is-digit byte ⌝ }
+{
+    (b'0' <= byte) & (byte <= b'9')
+}
 
-pub type Text = [u8; 32];
+fn digit_of(byte: u8) -> u32
+    requires { ⌜ 48 ≤ byte ⌝ }
+    ensures { λ r. ⌜ r ≡ byte - 48 ⌝ }
+{
+    (byte - b'0') as u32
+}
+
+// The whole digits of 64 bits, a point, and up to eleven decimals.
+pub const WIDTH: usize = 32;
 
 pub enum Rounded {
     To(u64),
     OutOfRange,
 }
 
-// x in parts of one over scale, to the nearest: what cannot be told in 64 bits is out of range, and so is what is negative.
-pub(crate) fn round(x: f64, scale: f64) -> Rounded {
+// How many parts, of which scale make one, are nearest to x. What is negative or too large for 64 bits is out of range, and so is NaN.
+pub(crate) fn round(x: f64, scale: f64) -> Rounded
+    ensures { λ r. ⌜ r ≡ rounded x scale ⌝ }
+{
     let parts = x * scale + 0.5;
     if x >= 0.0 {
         if parts > -1.0 {
@@ -99,38 +106,53 @@ pub(crate) fn round(x: f64, scale: f64) -> Rounded {
     Rounded::OutOfRange
 }
 
-// Writes n / 10^decimals with all its decimals at the end of the text, and answers where it begins.
-pub(crate) fn write_decimals(out: &mut Text, n: u64, decimals: usize) -> usize {
-    let mut at = WIDTH - decimals;
-    let whole = write_last(out, at, n, decimals);
-    at -= 1;
-    out[at] = b'.';
-    write_whole(out, at, whole)
+// Writes n parts, of which 10^places make one, with all their decimals at the end of the text, and answers where it begins.
+pub(crate) fn write_decimals(out: &mut [u8], n: u64, places: usize) -> usize
+    requires { ⌜ (length (now out) ≡ 32) × (places ≤ 11) ⌝ }
+    ensures { λ r. ⌜ (r ≤ 32) × (drop r (now (out .exit)) ≡ with-decimals places n) ⌝ }
+{
+    let start = WIDTH - places;
+    let whole = write_places(out, start, n, places);
+    let point = start - 1;
+    out[point] = b'.';
+    write_whole(out, point, whole)
 }
 
-fn write_last(out: &mut Text, at: usize, n: u64, places: usize) -> u64 {
+// Writes the last digits of n from `start` on, and answers n without them.
+fn write_places(out: &mut [u8], start: usize, n: u64, places: usize) -> u64
+    requires { ⌜ start + places ≤ length (now out) ⌝ }
+    ensures { λ _. ⌜ drop start (now (out .exit)) ≡ digits 10 places n ++ drop (start + places) (now (out .entry)) ⌝ }
+    ensures { λ r. ⌜ r ≡ without places n ⌝ }
+{
     let mut rest = n;
     let mut left = places;
     while 0 < left {
         left -= 1;
-        out[at + left] = glyph(rest % 10);
+        out[start + left] = digit(rest % 10);
         rest /= 10;
     }
     rest
 }
 
-fn write_whole(out: &mut Text, end: usize, n: u64) -> usize {
+// Writes n with no leading zero in front of `end`, and answers where it begins.
+fn write_whole(out: &mut [u8], end: usize, n: u64) -> usize
+    requires { ⌜ (20 ≤ end) × (end ≤ length (now out)) ⌝ }
+    ensures { λ r. ⌜ (r ≤ end) × (drop r (now (out .exit)) ≡ decimal n ++ drop end (now (out .entry))) ⌝ }
+{
+    let mut rest = n;
     let mut at = end - 1;
-    out[at] = glyph(n % 10);
-    let mut rest = n / 10;
-    while 0 < rest {
+    while 10 <= rest {
+        out[at] = digit(rest % 10);
         at -= 1;
-        out[at] = glyph(rest % 10);
         rest /= 10;
     }
+    out[at] = digit(rest);
     at
 }
 
-fn glyph(digit: u64) -> u8 {
-    b'0' + digit as u8
+fn digit(d: u64) -> u8
+    requires { ⌜ d < 10 ⌝ }
+    ensures { λ r. ⌜ r ≡ Listing·digit d ⌝ }
+{
+    b'0' + d as u8
 }

@@ -3,15 +3,12 @@ use crate::flux;
 use crate::flux::Ends;
 use crate::flux::Fault;
 use crate::flux::Reading;
-use crate::flux::Ticks;
 use crate::flux::Times;
 ghost use Prim.Native.Nat.{_≤_};
 ghost use Rattle.imaging.specs.Flux.{Within};
 
-// One byte more than the longest line that means something, so that a line which is cut at so many means nothing.
-const LONGEST: usize = 20;
-
-type Line = [u8; 20];
+// The bytes of `revolution 99999999`: no longer line means anything.
+const LONGEST: usize = 19;
 
 // What was read, and how many bytes of a line stand unfinished.
 struct Progress {
@@ -19,7 +16,9 @@ struct Progress {
     pending: usize,
 }
 
-pub(crate) fn read(file: i32, times: &mut Times, ends: &mut Ends, ticks: &mut Ticks) -> Reading {
+pub(crate) fn read(file: i32, times: &mut Times, ends: &mut Ends, ticks: &mut [u32]) -> Reading
+    ensures { λ r. ⌜ Within r ⌝ }
+{
     if file < 0 {
         return Reading::new().faulty(Fault::Unreadable, 1);
     }
@@ -29,18 +28,22 @@ pub(crate) fn read(file: i32, times: &mut Times, ends: &mut Ends, ticks: &mut Ti
 }
 
 // A proved loop has to end, and nothing says that a file does. So the loop counts its turns down, from a number that no run uses up.
-fn read_all(file: i32, times: &mut Times, ends: &mut Ends, ticks: &mut Ticks) -> Reading
+fn read_all(file: i32, times: &mut Times, ends: &mut Ends, ticks: &mut [u32]) -> Reading
     ensures { λ r. ⌜ Within r ⌝ }
 {
     let mut space = io::large_buffer();
     let piece: &mut [u8] = &mut space;
-    let mut line = [0u8; 20];
+    let mut longest = [0u8; LONGEST];
+    let line: &mut [u8] = &mut longest;
     let mut progress = Progress {
         reading: Reading::new(),
         pending: 0,
     };
     let mut turns = u64::MAX;
     while turns > 0 {
+        if progress.is_faulty() {
+            break;
+        }
         let got = libc::read(file, piece);
         if got < 0 {
             return Reading::new().faulty(Fault::Unreadable, 1);
@@ -49,60 +52,74 @@ fn read_all(file: i32, times: &mut Times, ends: &mut Ends, ticks: &mut Ticks) ->
             break;
         }
         let count = io::count(got, piece);
-        progress = read_piece(progress, &piece[..count], &mut line, times, ends, ticks);
+        progress = read_piece(progress, &piece[..count], line, times, ends, ticks);
         turns -= 1;
     }
-    last_line(progress, &line, times, ends, ticks)
+    last_line(progress, line, times, ends, ticks)
 }
 
-// Takes the lines that end in the piece, and keeps the start of the one that does not.
 fn read_piece(
     before: Progress,
     piece: &[u8],
-    line: &mut Line,
+    line: &mut [u8],
     times: &mut Times,
     ends: &mut Ends,
-    ticks: &mut Ticks,
+    ticks: &mut [u32],
 ) -> Progress
-    requires { ⌜ Within (before .reading) × (before .pending ≤ 20) ⌝ }
-    ensures { λ r. ⌜ Within (r .reading) × (r .pending ≤ 20) ⌝ }
+    requires { do ⌜ Within (before .reading) × (before .pending ≤ (← ⟦line.len()⟧)) ⌝ }
+    ensures { λ r. do ⌜ Within (r .reading) × (r .pending ≤ (← ⟦line.len()⟧ .entry)) ⌝ }
 {
-    let mut reading = before.reading;
-    let mut pending = before.pending;
+    let mut progress = before;
     for i in 0..piece.len() {
-        if reading.fault_line > 0 {
+        if progress.is_faulty() {
             break;
         }
-        if piece[i] == b'\n' {
-            reading = flux::take_line(reading, &line[..pending], times, ends, ticks);
-            pending = 0;
-        } else {
-            pending = put(line, pending, piece[i]);
-        }
+        progress = take_byte(progress, piece[i], line, times, ends, ticks);
     }
-    Progress { reading, pending }
+    progress
 }
 
-fn put(line: &mut Line, at: usize, byte: u8) -> usize
-    requires { ⌜ at ≤ 20 ⌝ }
-    ensures { λ r. ⌜ r ≤ 20 ⌝ }
+// A line feed ends a line, and any other byte is kept until then.
+fn take_byte(
+    before: Progress,
+    byte: u8,
+    line: &mut [u8],
+    times: &mut Times,
+    ends: &mut Ends,
+    ticks: &mut [u32],
+) -> Progress
+    requires { do ⌜ Within (before .reading) × (before .pending ≤ (← ⟦line.len()⟧)) ⌝ }
+    ensures { λ r. do ⌜ Within (r .reading) × (r .pending ≤ (← ⟦line.len()⟧ .entry)) ⌝ }
 {
-    if at == LONGEST {
-        return at;
+    let reading = before.reading;
+    let pending = before.pending;
+    if byte == b'\n' {
+        let reading = flux::take_line(reading, &line[..pending], times, ends, ticks);
+        return Progress {
+            reading,
+            pending: 0,
+        };
     }
-    line[at] = byte;
-    at + 1
+    if pending == line.len() {
+        let reading = reading.this_line(Fault::NoNumber);
+        return Progress { reading, pending };
+    }
+    line[pending] = byte;
+    Progress {
+        reading,
+        pending: pending + 1,
+    }
 }
 
 // The last line may lack its line feed.
 fn last_line(
     progress: Progress,
-    line: &Line,
+    line: &[u8],
     times: &mut Times,
     ends: &mut Ends,
-    ticks: &mut Ticks,
+    ticks: &mut [u32],
 ) -> Reading
-    requires { ⌜ Within (progress .reading) × (progress .pending ≤ 20) ⌝ }
+    requires { do ⌜ Within (progress .reading) × (progress .pending ≤ (← ⟦line.len()⟧)) ⌝ }
     ensures { λ r. ⌜ Within r ⌝ }
 {
     let reading = progress.reading;
@@ -114,4 +131,11 @@ fn last_line(
         return reading;
     }
     flux::take_line(reading, &line[..pending], times, ends, ticks)
+}
+
+impl Progress {
+    fn is_faulty(self) -> bool {
+        let reading = self.reading;
+        reading.fault_line > 0
+    }
 }

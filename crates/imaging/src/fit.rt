@@ -1,11 +1,10 @@
 // The fit: steps down the gradient of the misfit of all revolutions.
 use crate::flux::Ends;
-use crate::flux::MOST_INTERVALS;
 use crate::flux::Reading;
-use crate::flux::Ticks;
 use crate::flux::Times;
 use crate::model;
 use crate::model::Drive;
+use crate::model::Made;
 use crate::model::Model;
 use crate::report;
 use crate::revolution;
@@ -13,27 +12,29 @@ use crate::revolution::Turned;
 use dual::Cleared;
 use dual::Passed;
 use dual::Read;
-use tape::Moved;
-use tape::Operand;
 use tape::Tape;
+ghost use Prim.Native.Nat.{_≤_};
+ghost use Rattle.imaging.specs.Flux.{Within};
 
 const STEPS: usize = 32;
 
 // At 1/48 the steps settle on any track whose intervals are 4 cells long at most, as in MFM.
 const RATE: f64 = 1.0 / 48.0;
 
-const NOMINAL: Drive = Drive {
-    speed: 1.0,
-    cell: 1.0,
-};
-
-// What a step came to: the misfit an interval, the edges that its passes visited, and where it leads; or its refusal.
+// A step: where it was taken, the misfit an interval there, the edges that its passes visited, and where it leads; or its refusal.
 pub struct Step {
     pub tape: Tape,
+    pub drive: Drive,
     pub misfit: f64,
     pub edges: u64,
     pub next: Drive,
     pub refusal: u8,
+}
+
+// The model and what its revolutions came to.
+struct Gathered {
+    model: Model,
+    turned: Turned,
 }
 
 // The adjoint of a parameter, or the refusal to read it.
@@ -42,7 +43,9 @@ struct Slope {
     refusal: u8,
 }
 
-pub(crate) fn fit(name: &[u8], flux: Reading, times: &Times, ends: &Ends, ticks: &Ticks) {
+pub(crate) fn fit(name: &[u8], flux: Reading, times: &Times, ends: &Ends, ticks: &[u32])
+    requires { ⌜ Within flux ⌝ }
+{
     let mut value = [0.0; 65_535];
     let mut adjoint = [0.0; 65_535];
     let mut serial = [0u64; 65_535];
@@ -75,39 +78,81 @@ fn run(
     flux: Reading,
     times: &Times,
     ends: &Ends,
-    ticks: &Ticks,
-) {
-    let mut tape = Tape::new();
-    let mut drive = NOMINAL;
+    ticks: &[u32],
+)
+    requires { ⌜ Within flux ⌝ }
+{
+    let mut step = Step::none();
     for i in 0..STEPS {
-        let step = take_step(
-            tape,
+        if step.refusal > 0 {
+            break;
+        }
+        step = take_step(
+            step,
             value,
             adjoint,
             serial,
             count,
             child,
             partial,
-            drive,
             flux,
             times,
             ends,
             ticks,
         );
-        if step.refusal > 0 {
-            report::refusal(name, step.refusal);
-            return;
-        }
-        report::step(i + 1, drive, step);
-        drive = step.next;
-        tape = step.tape;
+        report::step(i + 1, step);
     }
-    report::fitted(drive, flux);
+    report::end(name, step, flux);
 }
 
 // A step makes the calls of document 01's demand 3, in its order: start, the model, mark, clear; for each revolution its misfit, the pass to the mark, the rewind; at last the pass from the mark to the start.
 // So the two adjoints that it reads are those of one long tape of all revolutions (crates/revolutions/specs/Revolutions.antt).
 fn take_step(
+    before: Step,
+    value: &mut [f64],
+    adjoint: &mut [f64],
+    serial: &mut [u64],
+    count: &mut [u8],
+    child: &mut [u16],
+    partial: &mut [f64],
+    flux: Reading,
+    times: &Times,
+    ends: &Ends,
+    ticks: &[u32],
+) -> Step
+    requires { ⌜ Within flux ⌝ }
+{
+    let tape = before.tape;
+    let drive = before.next;
+    let gathered = gather(
+        tape,
+        value,
+        adjoint,
+        serial,
+        count,
+        child,
+        partial,
+        drive,
+        flux.revolutions,
+        times,
+        ends,
+        ticks,
+    );
+    finish(
+        gathered,
+        value,
+        adjoint,
+        serial,
+        count,
+        child,
+        partial,
+        drive,
+        flux.intervals,
+    )
+}
+
+// Everything up to the last pass.
+fn gather(
     tape: Tape,
     value: &mut [f64],
     adjoint: &mut [f64],
@@ -116,24 +161,18 @@ fn take_step(
     child: &mut [u16],
     partial: &mut [f64],
     drive: Drive,
-    flux: Reading,
+    revolutions: usize,
     times: &Times,
     ends: &Ends,
-    ticks: &Ticks,
-) -> Step {
-    let model = model::record_model(
-        tape.start_recording(),
-        value,
-        adjoint,
-        serial,
-        count,
-        child,
-        partial,
-        drive,
-    );
-    let marked = mark(model, value, adjoint, serial, count, child, partial);
+    ticks: &[u32],
+) -> Gathered
+    requires { ⌜ revolutions ≤ 64 ⌝ }
+{
+    let marked = begin(tape, value, adjoint, serial, count, child, partial, drive);
+    let before = marked.turned;
+    let model = marked.model;
     let turned = turn_all(
-        marked,
+        before,
         value,
         adjoint,
         serial,
@@ -141,24 +180,29 @@ fn take_step(
         child,
         partial,
         model,
-        flux.revolutions,
+        revolutions,
         times,
         ends,
         ticks,
     );
-    let intervals = std::num::nearest_u64_to_f64(flux.intervals as u64);
-    finish(
-        turned,
-        value,
-        adjoint,
-        serial,
-        count,
-        child,
-        partial,
-        model,
-        drive,
-        intervals,
-    )
+    Gathered { model, turned }
+}
+
+// The model, the mark behind it, and its adjoints cleared.
+fn begin(
+    tape: Tape,
+    value: &mut [f64],
+    adjoint: &mut [f64],
+    serial: &mut [u64],
+    count: &mut [u8],
+    child: &mut [u16],
+    partial: &mut [f64],
+    drive: Drive,
+) -> Gathered {
+    let start = Made::started(tape);
+    let model = model::record_model(start, value, adjoint, serial, count, child, partial, drive);
+    let turned = mark(model, value, adjoint, serial, count, child, partial);
+    Gathered { model, turned }
 }
 
 fn mark(
@@ -196,11 +240,13 @@ fn turn_all(
     revolutions: usize,
     times: &Times,
     ends: &Ends,
-    ticks: &Ticks,
-) -> Turned {
+    ticks: &[u32],
+) -> Turned
+    requires { ⌜ revolutions ≤ 64 ⌝ }
+{
     let mut turned = marked;
     for i in 0..revolutions {
-        let end = least(ends[i + 1], MOST_INTERVALS);
+        let end = least(ends[i + 1], ticks.len());
         let from = least(ends[i], end);
         turned = revolution::turn(
             turned,
@@ -218,26 +264,28 @@ fn turn_all(
     turned
 }
 
-fn least(a: usize, b: usize) -> usize {
+fn least(a: usize, b: usize) -> usize
+    ensures { λ r. ⌜ (r ≤ a) × (r ≤ b) ⌝ }
+{
     if a < b { a } else { b }
 }
 
 // The last pass, and a step down the slope that it leaves at the parameters.
 fn finish(
-    before: Turned,
+    gathered: Gathered,
     value: &mut [f64],
     adjoint: &mut [f64],
     serial: &mut [u64],
     count: &mut [u8],
     child: &mut [u16],
     partial: &mut [f64],
-    model: Model,
     drive: Drive,
-    intervals: f64,
+    intervals: usize,
 ) -> Step {
+    let before = gathered.turned;
     let tape = before.tape;
     if before.refusal > 0 {
-        return Step::refused(tape, before.refusal);
+        return Step::refused(before.refusal);
     }
     let turned = before.passed(dual::passes::propagate_mark_to_start(
         tape,
@@ -248,6 +296,34 @@ fn finish(
         child,
         partial,
     ));
+    let model = gathered.model;
+    step_down(
+        turned,
+        value,
+        adjoint,
+        serial,
+        count,
+        child,
+        partial,
+        model,
+        drive,
+        intervals,
+    )
+}
+
+fn step_down(
+    turned: Turned,
+    value: &[f64],
+    adjoint: &[f64],
+    serial: &[u64],
+    count: &[u8],
+    child: &[u16],
+    partial: &[f64],
+    model: Model,
+    drive: Drive,
+    intervals: usize,
+) -> Step {
+    let tape = turned.tape;
     let speed = model.speed;
     let cell = model.cell;
     let by_speed = dual::reading::adjoint(
@@ -261,10 +337,16 @@ fn finish(
         speed,
     );
     let by_cell = dual::reading::adjoint(tape, value, adjoint, serial, count, child, partial, cell);
-    Step::taken(turned, intervals, drive, slope(by_speed), slope(by_cell))
+    Step::taken(
+        turned,
+        intervals,
+        drive,
+        slope_of(by_speed),
+        slope_of(by_cell),
+    )
 }
 
-fn slope(read: Read) -> Slope {
+fn slope_of(read: Read) -> Slope {
     match read {
         Read::Number(x) => Slope { x, refusal: 0 },
         Read::Refused(refusal) => Slope {
@@ -275,36 +357,50 @@ fn slope(read: Read) -> Slope {
 }
 
 impl Step {
+    // Before the first step.
+    fn none() -> Step {
+        let tape = Tape::new();
+        let nominal = Drive {
+            speed: 1.0,
+            cell: 1.0,
+        };
+        Step {
+            tape,
+            drive: nominal,
+            misfit: 0.0,
+            edges: 0,
+            next: nominal,
+            refusal: 0,
+        }
+    }
+
     fn taken(
         turned: Turned,
-        intervals: f64,
+        intervals: usize,
         drive: Drive,
         by_speed: Slope,
         by_cell: Slope,
     ) -> Step {
         let tape = turned.tape;
+        let all = std::num::nearest_u64_to_f64(intervals as u64);
         let next = Drive {
-            speed: drive.speed - RATE * by_speed.x / intervals,
-            cell: drive.cell - RATE * by_cell.x / intervals,
+            speed: drive.speed - RATE * by_speed.x / all,
+            cell: drive.cell - RATE * by_cell.x / all,
         };
         Step {
             tape,
-            misfit: turned.misfit / intervals,
+            drive,
+            misfit: turned.misfit / all,
             edges: turned.edges,
             next,
             refusal: first(turned.refusal, first(by_speed.refusal, by_cell.refusal)),
         }
     }
 
-    fn refused(tape: Tape, refusal: u8) -> Step {
-        let next = NOMINAL;
-        Step {
-            tape,
-            misfit: 0.0,
-            edges: 0,
-            next,
-            refusal,
-        }
+    fn refused(refusal: u8) -> Step {
+        let mut step = Step::none();
+        step.refusal = refusal;
+        step
     }
 }
 

@@ -1,4 +1,4 @@
-// What a file holds, line by line: index times and intervals in ticks of 25 ns, and whether the lines are in order.
+// What a file holds, line by line, and whether its lines are in order. The intervals of all revolutions go into one lent slice, one after another, in ticks of 25 ns.
 use crate::digits;
 use crate::digits::Entry;
 ghost use Rattle.imaging.specs.Flux.{Within};
@@ -19,9 +19,6 @@ pub type Times = [u32; 64];
 
 // How many intervals have passed before the first revolution, which is none, and after each.
 pub type Ends = [usize; 65];
-
-// The intervals of all revolutions, one after another.
-pub type Ticks = [u32; 65_536];
 
 pub enum Fault {
     Unreadable,
@@ -51,12 +48,12 @@ pub(crate) fn take_line(
     line: &[u8],
     times: &mut Times,
     ends: &mut Ends,
-    ticks: &mut Ticks,
+    ticks: &mut [u32],
 ) -> Reading
     requires { ⌜ Within before ⌝ }
     ensures { λ r. ⌜ Within r ⌝ }
 {
-    match digits::entry(line) {
+    match digits::read_entry(line) {
         Entry::Revolution(time) => begin_revolution(before, time, times, ends),
         Entry::Interval(time) => add_interval(before, time, ends, ticks),
         Entry::Neither => before.this_line(Fault::NoNumber),
@@ -90,7 +87,7 @@ fn begin_revolution(before: Reading, time: u32, times: &mut Times, ends: &mut En
     after
 }
 
-fn add_interval(before: Reading, time: u32, ends: &mut Ends, ticks: &mut Ticks) -> Reading
+fn add_interval(before: Reading, time: u32, ends: &mut Ends, ticks: &mut [u32]) -> Reading
     requires { ⌜ Within before ⌝ }
     ensures { λ r. ⌜ Within r ⌝ }
 {
@@ -102,7 +99,7 @@ fn add_interval(before: Reading, time: u32, ends: &mut Ends, ticks: &mut Ticks) 
     if before.latest >= MOST_IN_REVOLUTION {
         return before.this_line(Fault::LongRevolution);
     }
-    if intervals >= MOST_INTERVALS {
+    if intervals >= ticks.len() {
         return before.this_line(Fault::LongFile);
     }
     ticks[intervals] = time;
@@ -129,6 +126,7 @@ impl Reading {
     // At the end of the file: whether anything was in it, and in its last revolution.
     pub(crate) fn ended(self) -> Reading
         requires { ⌜ Within self ⌝ }
+        ensures { λ r. ⌜ Within r ⌝ }
     {
         if self.fault_line > 0 {
             return self;
@@ -142,7 +140,8 @@ impl Reading {
         self
     }
 
-    fn this_line(self, fault: Fault) -> Reading
+    // Every line before this one is counted.
+    pub(crate) fn this_line(self, fault: Fault) -> Reading
         requires { ⌜ Within self ⌝ }
         ensures { λ r. ⌜ Within r ⌝ }
     {

@@ -30,12 +30,13 @@ fn fit_argument(i: usize) {
 fn fit_file(name: &[u8]) {
     let mut times = [0u32; 64];
     let mut ends = [0usize; 65];
-    let mut ticks = [0u32; 65_536];
-    let reading = file::read(os::open_read(name), &mut times, &mut ends, &mut ticks);
+    let mut space = [0u32; flux::MOST_INTERVALS];
+    let ticks: &mut [u32] = &mut space;
+    let reading = file::read(os::open_read(name), &mut times, &mut ends, ticks);
     if reading.fault_line > 0 {
         report::fault(name, reading);
         return;
     }
     report::sizes(name, reading);
-    fit::fit(name, reading, &times, &ends, &ticks);
+    fit::fit(name, reading, &times, &ends, ticks);
 }

@@ -46,9 +46,13 @@ pub struct Model {
     pub seen: Made,
 }
 
-// Records the model on a tape that was started.
+struct Leaves {
+    speed: Operand,
+    cell: Made,
+}
+
 pub(crate) fn record_model(
-    start: Moved,
+    start: Made,
     value: &mut [f64],
     adjoint: &mut [f64],
     serial: &mut [u64],
@@ -57,11 +61,23 @@ pub(crate) fn record_model(
     partial: &mut [f64],
     drive: Drive,
 ) -> Model {
+    let leaves = record_leaves(start, value, adjoint, serial, count, child, partial, drive);
+    record_seen(leaves, value, adjoint, serial, count, child, partial)
+}
+
+fn record_leaves(
+    start: Made,
+    value: &mut [f64],
+    adjoint: &mut [f64],
+    serial: &mut [u64],
+    count: &mut [u8],
+    child: &mut [u16],
+    partial: &mut [f64],
+    drive: Drive,
+) -> Leaves {
     let zero = Operand::Number(0.0);
-    let one = Operand::Number(1.0);
-    let made = Made::first(start);
     let made = record(
-        made,
+        start,
         value,
         adjoint,
         serial,
@@ -73,7 +89,7 @@ pub(crate) fn record_model(
         zero,
     );
     let speed = made.x;
-    let made = record(
+    let cell = record(
         made,
         value,
         adjoint,
@@ -85,6 +101,21 @@ pub(crate) fn record_model(
         Operand::Number(drive.cell),
         zero,
     );
+    Leaves { speed, cell }
+}
+
+fn record_seen(
+    leaves: Leaves,
+    value: &mut [f64],
+    adjoint: &mut [f64],
+    serial: &mut [u64],
+    count: &mut [u8],
+    child: &mut [u16],
+    partial: &mut [f64],
+) -> Model {
+    let one = Operand::Number(1.0);
+    let speed = leaves.speed;
+    let made = leaves.cell;
     let cell = made.x;
     let made = record(
         made,
@@ -166,10 +197,11 @@ fn made_of(tape: Tape, x: Operand, worth: f64) -> Made {
 }
 
 impl Made {
-    fn first(start: Moved) -> Made {
-        match start {
-            Moved::Done(tape) => Made::nothing(tape),
-            Moved::Refused(refusal, tape) => Made::nothing(tape).refused(refusal),
+    // On a tape that is started anew.
+    pub(crate) fn started(tape: Tape) -> Made {
+        match tape.start_recording() {
+            Moved::Done(after) => Made::nothing(after),
+            Moved::Refused(refusal, after) => Made::nothing(after).refused(refusal),
         }
     }
 

@@ -11,6 +11,8 @@ use crate::flux::Reading;
 use crate::flux::SHORTEST_TURN;
 use crate::model::Drive;
 use libc::STDOUT_FILENO;
+ghost use Prim.Native.Nat.{_≤_};
+ghost use lib.ListN.{length};
 
 // With how many decimals a number is written.
 struct Decimals {
@@ -45,29 +47,35 @@ pub(crate) fn sizes(name: &[u8], reading: Reading) {
     text(b"\n");
 }
 
-pub(crate) fn step(i: usize, drive: Drive, step: Step) {
+// A step that was refused has no line of its own.
+pub(crate) fn step(i: usize, step: Step) {
+    if step.refusal > 0 {
+        return;
+    }
     text(b"step ");
     if i < 10 {
         text(b" ");
     }
     number(b"", i);
     decimal(b": misfit ", step.misfit, NINE);
+    let drive = step.drive;
     settings(b", speed ", drive);
     text(b", ");
     io::print_decimal(STDOUT_FILENO, step.edges);
     text(b" edges\n");
 }
 
-pub(crate) fn fitted(drive: Drive, reading: Reading) {
-    settings(b"fitted: speed ", drive);
-    counted(b", from ", reading.revolutions, b"revolution");
-    counted(b" and ", reading.intervals, b"interval");
-    text(b"\n");
-}
-
-pub(crate) fn refusal(name: &[u8], refusal: u8) {
-    text(name);
-    number(b": refusal ", refusal as usize);
+// Where the last step leads, or why there is no result.
+pub(crate) fn end(name: &[u8], last: Step, reading: Reading) {
+    if last.refusal > 0 {
+        text(name);
+        number(b": refusal ", last.refusal as usize);
+    } else {
+        let drive = last.next;
+        settings(b"fitted: speed ", drive);
+        counted(b", from ", reading.revolutions, b"revolution");
+        counted(b" and ", reading.intervals, b"interval");
+    }
     text(b"\n");
 }
 
@@ -126,7 +134,9 @@ fn counted(before: &[u8], n: usize, what: &[u8]) {
     }
 }
 
-fn decimal(before: &[u8], x: f64, decimals: Decimals) {
+fn decimal(before: &[u8], x: f64, decimals: Decimals)
+    requires { ⌜ decimals .places ≤ 11 ⌝ }
+{
     text(before);
     match digits::round(x, decimals.scale) {
         Rounded::To(n) => rounded(n, decimals.places),
@@ -134,10 +144,19 @@ fn decimal(before: &[u8], x: f64, decimals: Decimals) {
     }
 }
 
-fn rounded(n: u64, places: usize) {
-    let mut space = [0u8; 32];
-    let from = digits::write_decimals(&mut space, n, places);
-    text(&space[from..]);
+fn rounded(n: u64, places: usize)
+    requires { ⌜ places ≤ 11 ⌝ }
+{
+    let mut space = [0u8; digits::WIDTH];
+    let out: &mut [u8] = &mut space;
+    let from = digits::write_decimals(out, n, places);
+    text_from(out, from);
+}
+
+fn text_from(bytes: &[u8], from: usize)
+    requires { ⌜ from ≤ length (now bytes) ⌝ }
+{
+    text(&bytes[from..]);
 }
 
 fn number(before: &[u8], n: usize) {

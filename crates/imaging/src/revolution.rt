@@ -61,6 +61,7 @@ pub(crate) fn turn(
         time,
         ticks,
     );
+    let root = misfit.x;
     pass_back(
         before.with(misfit),
         value,
@@ -69,7 +70,7 @@ pub(crate) fn turn(
         count,
         child,
         partial,
-        misfit.x,
+        root,
     )
 }
 
@@ -154,31 +155,16 @@ fn record_index(
     time: f64,
     weight: f64,
 ) -> Made {
-    let made = Made::nothing(tape);
-    let made = model::record(
-        made,
+    let made = record_square(
+        Made::nothing(tape),
         value,
         adjoint,
         serial,
         count,
         child,
         partial,
-        SUBTRACT,
-        Operand::Number(time),
+        time,
         turn,
-    );
-    let off = made.x;
-    let made = model::record(
-        made,
-        value,
-        adjoint,
-        serial,
-        count,
-        child,
-        partial,
-        MULTIPLY,
-        off,
-        off,
     );
     let square = made.x;
     model::record(
@@ -192,6 +178,45 @@ fn record_index(
         MULTIPLY,
         square,
         Operand::Number(weight),
+    )
+}
+
+// The square of how far a measured number is from what was expected.
+fn record_square(
+    made: Made,
+    value: &mut [f64],
+    adjoint: &mut [f64],
+    serial: &mut [u64],
+    count: &mut [u8],
+    child: &mut [u16],
+    partial: &mut [f64],
+    measured: f64,
+    expected: Operand,
+) -> Made {
+    let made = model::record(
+        made,
+        value,
+        adjoint,
+        serial,
+        count,
+        child,
+        partial,
+        SUBTRACT,
+        Operand::Number(measured),
+        expected,
+    );
+    let off = made.x;
+    model::record(
+        made,
+        value,
+        adjoint,
+        serial,
+        count,
+        child,
+        partial,
+        MULTIPLY,
+        off,
+        off,
     )
 }
 
@@ -241,8 +266,35 @@ fn record_interval(
     cells: f64,
 ) -> Made {
     let total = sum.x;
-    let made = model::record(
+    let square = record_residual(
         sum,
+        value,
+        adjoint,
+        serial,
+        count,
+        child,
+        partial,
+        seen,
+        t,
+        cells,
+    );
+    add_clipped(square, value, adjoint, serial, count, child, partial, total)
+}
+
+fn record_residual(
+    made: Made,
+    value: &mut [f64],
+    adjoint: &mut [f64],
+    serial: &mut [u64],
+    count: &mut [u8],
+    child: &mut [u16],
+    partial: &mut [f64],
+    seen: Operand,
+    t: f64,
+    cells: f64,
+) -> Made {
+    let made = model::record(
+        made,
         value,
         adjoint,
         serial,
@@ -254,7 +306,7 @@ fn record_interval(
         Operand::Number(cells),
     );
     let expected = made.x;
-    let made = model::record(
+    record_square(
         made,
         value,
         adjoint,
@@ -262,23 +314,21 @@ fn record_interval(
         count,
         child,
         partial,
-        SUBTRACT,
-        Operand::Number(t),
+        t,
         expected,
-    );
-    let residual = made.x;
-    let made = model::record(
-        made,
-        value,
-        adjoint,
-        serial,
-        count,
-        child,
-        partial,
-        MULTIPLY,
-        residual,
-        residual,
-    );
+    )
+}
+
+fn add_clipped(
+    made: Made,
+    value: &mut [f64],
+    adjoint: &mut [f64],
+    serial: &mut [u64],
+    count: &mut [u8],
+    child: &mut [u16],
+    partial: &mut [f64],
+    total: Operand,
+) -> Made {
     let square = made.x;
     let made = model::record(
         made,
