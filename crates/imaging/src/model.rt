@@ -1,4 +1,4 @@
-// The drive model, and how an operation is recorded.
+// The drive model, and how an operation is recorded. What is recorded stands in tables: a function that lends the tape's arrays takes long to prove, and so one call serves all.
 use expr::Recorded;
 use expr::Supplied;
 use tape::Moved;
@@ -6,28 +6,17 @@ use tape::Operand;
 use tape::Refusal;
 use tape::Tape;
 
-pub const SUBTRACT: u8 = 2;
-
-pub const ADD: u8 = 1;
-
-pub const MULTIPLY: u8 = 3;
-
-pub const MIN: u8 = 6;
-
-const LEAF: u8 = 0;
-
-const DIVIDE: u8 = 4;
-
-const NOTHING: Supplied = Supplied {
-    value: 0.0,
-    left: 0.0,
-    right: 0.0,
-};
-
 // The two parameters, relative to 300 rpm and to bit cells of 2,000 ns.
 pub struct Drive {
     pub speed: f64,
     pub cell: f64,
+}
+
+// An operation of document 01's table, with its operands.
+pub struct Operation {
+    pub number: u8,
+    pub left: Operand,
+    pub right: Operand,
 }
 
 // What was recorded last, as an operand and as a number, and the tape after it; or the first refusal, after which nothing is recorded.
@@ -46,10 +35,7 @@ pub struct Model {
     pub seen: Made,
 }
 
-struct Leaves {
-    speed: Operand,
-    cell: Made,
-}
+const NODES: usize = 4;
 
 pub(crate) fn record_model(
     start: Made,
@@ -61,94 +47,136 @@ pub(crate) fn record_model(
     partial: &mut [f64],
     drive: Drive,
 ) -> Model {
-    let leaves = record_leaves(start, value, adjoint, serial, count, child, partial, drive);
-    record_seen(leaves, value, adjoint, serial, count, child, partial)
+    let mut model = Model::none(start);
+    for i in 0..NODES {
+        let last = model.seen;
+        let made = record(
+            last,
+            value,
+            adjoint,
+            serial,
+            count,
+            child,
+            partial,
+            model.operation(i, drive),
+        );
+        model = model.with(i, made);
+    }
+    model
 }
 
-fn record_leaves(
-    start: Made,
-    value: &mut [f64],
-    adjoint: &mut [f64],
-    serial: &mut [u64],
-    count: &mut [u8],
-    child: &mut [u16],
-    partial: &mut [f64],
-    drive: Drive,
-) -> Leaves {
-    let zero = Operand::Number(0.0);
-    let made = record(
-        start,
-        value,
-        adjoint,
-        serial,
-        count,
-        child,
-        partial,
-        LEAF,
-        Operand::Number(drive.speed),
-        zero,
-    );
-    let speed = made.x;
-    let cell = record(
-        made,
-        value,
-        adjoint,
-        serial,
-        count,
-        child,
-        partial,
-        LEAF,
-        Operand::Number(drive.cell),
-        zero,
-    );
-    Leaves { speed, cell }
-}
+impl Model {
+    fn none(start: Made) -> Model {
+        let zero = Operand::Number(0.0);
+        Model {
+            speed: zero,
+            cell: zero,
+            turn: zero,
+            seen: start,
+        }
+    }
 
-fn record_seen(
-    leaves: Leaves,
-    value: &mut [f64],
-    adjoint: &mut [f64],
-    serial: &mut [u64],
-    count: &mut [u8],
-    child: &mut [u16],
-    partial: &mut [f64],
-) -> Model {
-    let one = Operand::Number(1.0);
-    let speed = leaves.speed;
-    let made = leaves.cell;
-    let cell = made.x;
-    let made = record(
-        made,
-        value,
-        adjoint,
-        serial,
-        count,
-        child,
-        partial,
-        DIVIDE,
-        one,
-        speed,
-    );
-    let turn = made.x;
-    let seen = record(
-        made,
-        value,
-        adjoint,
-        serial,
-        count,
-        child,
-        partial,
-        MULTIPLY,
-        cell,
-        turn,
-    );
-    Model {
-        speed,
-        cell,
-        turn,
-        seen,
+    // The operation of node i, once those before it are recorded.
+    fn operation(self, i: usize, drive: Drive) -> Operation {
+        let speed = self.speed;
+        let cell = self.cell;
+        let turn = self.turn;
+        match i {
+            0 => leaf(drive.speed),
+            1 => leaf(drive.cell),
+            2 => divide(Operand::Number(1.0), speed),
+            _ => multiply(cell, turn),
+        }
+    }
+
+    fn with(self, i: usize, made: Made) -> Model {
+        let x = made.x;
+        let speed = self.speed;
+        let cell = self.cell;
+        let turn = self.turn;
+        let seen = made;
+        match i {
+            0 => Model {
+                speed: x,
+                cell,
+                turn,
+                seen,
+            },
+            1 => Model {
+                speed,
+                cell: x,
+                turn,
+                seen,
+            },
+            2 => Model {
+                speed,
+                cell,
+                turn: x,
+                seen,
+            },
+            _ => Model {
+                speed,
+                cell,
+                turn,
+                seen,
+            },
+        }
     }
 }
+
+fn leaf(x: f64) -> Operation {
+    Operation {
+        number: 0,
+        left: Operand::Number(x),
+        right: Operand::Number(0.0),
+    }
+}
+
+pub(crate) fn add(left: Operand, right: Operand) -> Operation {
+    Operation {
+        number: 1,
+        left,
+        right,
+    }
+}
+
+pub(crate) fn subtract(left: Operand, right: Operand) -> Operation {
+    Operation {
+        number: 2,
+        left,
+        right,
+    }
+}
+
+pub(crate) fn multiply(left: Operand, right: Operand) -> Operation {
+    Operation {
+        number: 3,
+        left,
+        right,
+    }
+}
+
+fn divide(left: Operand, right: Operand) -> Operation {
+    Operation {
+        number: 4,
+        left,
+        right,
+    }
+}
+
+pub(crate) fn min(left: Operand, right: Operand) -> Operation {
+    Operation {
+        number: 6,
+        left,
+        right,
+    }
+}
+
+const NOTHING: Supplied = Supplied {
+    value: 0.0,
+    left: 0.0,
+    right: 0.0,
+};
 
 // Records one operation, unless one before it was refused.
 pub(crate) fn record(
@@ -159,14 +187,14 @@ pub(crate) fn record(
     count: &mut [u8],
     child: &mut [u16],
     partial: &mut [f64],
-    op: u8,
-    left: Operand,
-    right: Operand,
+    operation: Operation,
 ) -> Made {
     if made.refusal > 0 {
         return made;
     }
     let tape = made.tape;
+    let left = operation.left;
+    let right = operation.right;
     match expr::recording::record(
         tape,
         value,
@@ -175,7 +203,7 @@ pub(crate) fn record(
         count,
         child,
         partial,
-        op,
+        operation.number,
         left,
         right,
         NOTHING,

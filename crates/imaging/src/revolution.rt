@@ -1,11 +1,8 @@
 // One revolution: its misfit is recorded behind the mark, passed back to it, and dropped.
 use crate::model;
-use crate::model::ADD;
-use crate::model::MIN;
-use crate::model::MULTIPLY;
 use crate::model::Made;
 use crate::model::Model;
-use crate::model::SUBTRACT;
+use crate::model::Operation;
 use dual::Passed;
 use tape::Moved;
 use tape::Operand;
@@ -24,6 +21,12 @@ const INDEX_WEIGHT: f64 = 16.0;
 const CLIP: f64 = 0.0625;
 
 const MOST_CELLS: u32 = 8;
+
+// A part of a misfit: the time of a turn as modelled and as measured, with its weight; or the sum so far, a cell as this drive reads it, an interval in nominal cells and the cells in it.
+enum Part {
+    Index(Operand, f64, f64),
+    Interval(Operand, Operand, f64, f64),
+}
 
 // What revolutions came to, and the tape after them; or the first refusal, after which nothing is done.
 pub struct Turned {
@@ -114,21 +117,19 @@ fn record_misfit(
     time: u32,
     ticks: &[u32],
 ) -> Made {
-    let weight = INDEX_WEIGHT * std::num::nearest_u64_to_f64(ticks.len() as u64);
     let turn = model.turn;
-    let made = record_index(
-        tape,
+    let seen = model.seen;
+    let index = Part::Index(turn, time as f64 / TURN, weight(ticks.len()));
+    let made = record_part(
+        Made::nothing(tape),
         value,
         adjoint,
         serial,
         count,
         child,
         partial,
-        turn,
-        time as f64 / TURN,
-        weight,
+        index,
     );
-    let seen = model.seen;
     record_intervals(
         made,
         value,
@@ -142,82 +143,8 @@ fn record_misfit(
     )
 }
 
-// The square of how far the index time is off, by its weight.
-fn record_index(
-    tape: Tape,
-    value: &mut [f64],
-    adjoint: &mut [f64],
-    serial: &mut [u64],
-    count: &mut [u8],
-    child: &mut [u16],
-    partial: &mut [f64],
-    turn: Operand,
-    time: f64,
-    weight: f64,
-) -> Made {
-    let made = record_square(
-        Made::nothing(tape),
-        value,
-        adjoint,
-        serial,
-        count,
-        child,
-        partial,
-        time,
-        turn,
-    );
-    let square = made.x;
-    model::record(
-        made,
-        value,
-        adjoint,
-        serial,
-        count,
-        child,
-        partial,
-        MULTIPLY,
-        square,
-        Operand::Number(weight),
-    )
-}
-
-// The square of how far a measured number is from what was expected.
-fn record_square(
-    made: Made,
-    value: &mut [f64],
-    adjoint: &mut [f64],
-    serial: &mut [u64],
-    count: &mut [u8],
-    child: &mut [u16],
-    partial: &mut [f64],
-    measured: f64,
-    expected: Operand,
-) -> Made {
-    let made = model::record(
-        made,
-        value,
-        adjoint,
-        serial,
-        count,
-        child,
-        partial,
-        SUBTRACT,
-        Operand::Number(measured),
-        expected,
-    );
-    let off = made.x;
-    model::record(
-        made,
-        value,
-        adjoint,
-        serial,
-        count,
-        child,
-        partial,
-        MULTIPLY,
-        off,
-        off,
-    )
+fn weight(intervals: usize) -> f64 {
+    INDEX_WEIGHT * std::num::nearest_u64_to_f64(intervals as u64)
 }
 
 fn record_intervals(
@@ -231,12 +158,34 @@ fn record_intervals(
     seen: Made,
     ticks: &[u32],
 ) -> Made {
-    let mut made = index;
-    let cell = seen.x;
+    let mut sum = index;
     for i in 0..ticks.len() {
-        let t = ticks[i] as f64 / CELL;
-        let cells = nearest_cells(t, seen.worth);
-        made = record_interval(
+        let part = interval(sum, seen, ticks[i] as f64 / CELL);
+        sum = record_part(sum, value, adjoint, serial, count, child, partial, part);
+    }
+    sum
+}
+
+fn interval(sum: Made, seen: Made, t: f64) -> Part {
+    let total = sum.x;
+    let cell = seen.x;
+    Part::Interval(total, cell, t, nearest_cells(t, seen.worth))
+}
+
+fn record_part(
+    before: Made,
+    value: &mut [f64],
+    adjoint: &mut [f64],
+    serial: &mut [u64],
+    count: &mut [u8],
+    child: &mut [u16],
+    partial: &mut [f64],
+    part: Part,
+) -> Made {
+    let mut made = before;
+    for i in 0..operations(part) {
+        let last = made.x;
+        made = model::record(
             made,
             value,
             adjoint,
@@ -244,117 +193,52 @@ fn record_intervals(
             count,
             child,
             partial,
-            cell,
-            t,
-            cells,
+            operation(part, i, last),
         );
     }
     made
 }
 
-// Adds the square of how far an interval is off, up to the clip.
-fn record_interval(
-    sum: Made,
-    value: &mut [f64],
-    adjoint: &mut [f64],
-    serial: &mut [u64],
-    count: &mut [u8],
-    child: &mut [u16],
-    partial: &mut [f64],
+fn operations(part: Part) -> usize {
+    match part {
+        Part::Index(_, _, _) => 3,
+        Part::Interval(_, _, _, _) => 5,
+    }
+}
+
+// The operation that comes after i others of its part, on what the last one made.
+fn operation(part: Part, i: usize, last: Operand) -> Operation {
+    match part {
+        Part::Index(turn, time, weight) => of_index(i, last, turn, time, weight),
+        Part::Interval(sum, seen, t, cells) => of_interval(i, last, sum, seen, t, cells),
+    }
+}
+
+// The square of how far the index time is off, by its weight.
+fn of_index(i: usize, last: Operand, turn: Operand, time: f64, weight: f64) -> Operation {
+    match i {
+        0 => model::subtract(Operand::Number(time), turn),
+        1 => model::multiply(last, last),
+        _ => model::multiply(last, Operand::Number(weight)),
+    }
+}
+
+// The square of how far the interval is off what is expected, up to the clip, and added to the sum.
+fn of_interval(
+    i: usize,
+    last: Operand,
+    sum: Operand,
     seen: Operand,
     t: f64,
     cells: f64,
-) -> Made {
-    let total = sum.x;
-    let square = record_residual(
-        sum,
-        value,
-        adjoint,
-        serial,
-        count,
-        child,
-        partial,
-        seen,
-        t,
-        cells,
-    );
-    add_clipped(square, value, adjoint, serial, count, child, partial, total)
-}
-
-fn record_residual(
-    made: Made,
-    value: &mut [f64],
-    adjoint: &mut [f64],
-    serial: &mut [u64],
-    count: &mut [u8],
-    child: &mut [u16],
-    partial: &mut [f64],
-    seen: Operand,
-    t: f64,
-    cells: f64,
-) -> Made {
-    let made = model::record(
-        made,
-        value,
-        adjoint,
-        serial,
-        count,
-        child,
-        partial,
-        MULTIPLY,
-        seen,
-        Operand::Number(cells),
-    );
-    let expected = made.x;
-    record_square(
-        made,
-        value,
-        adjoint,
-        serial,
-        count,
-        child,
-        partial,
-        t,
-        expected,
-    )
-}
-
-fn add_clipped(
-    made: Made,
-    value: &mut [f64],
-    adjoint: &mut [f64],
-    serial: &mut [u64],
-    count: &mut [u8],
-    child: &mut [u16],
-    partial: &mut [f64],
-    total: Operand,
-) -> Made {
-    let square = made.x;
-    let made = model::record(
-        made,
-        value,
-        adjoint,
-        serial,
-        count,
-        child,
-        partial,
-        MIN,
-        square,
-        Operand::Number(CLIP),
-    );
-    let clipped = made.x;
-    model::record(
-        made,
-        value,
-        adjoint,
-        serial,
-        count,
-        child,
-        partial,
-        ADD,
-        total,
-        clipped,
-    )
+) -> Operation {
+    match i {
+        0 => model::multiply(seen, Operand::Number(cells)),
+        1 => model::subtract(Operand::Number(t), last),
+        2 => model::multiply(last, last),
+        3 => model::min(last, Operand::Number(CLIP)),
+        _ => model::add(sum, last),
+    }
 }
 
 // How many whole cells, 1 to 8, come nearest to t.

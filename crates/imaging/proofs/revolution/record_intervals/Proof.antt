@@ -7,7 +7,7 @@ use Rattle.imaging.proofs.revolution.record_intervals.Statement.{statem
 use Rattle.imaging.proofs.revolution.record_intervals.Tie as tie
 
 abbrev Inv-loop : tie.InvT-loop
-Inv-loop value₀ adjoint₀ serial₀ count₀ child₀ partial₀ seen ticks made₀ cell i₀ i-end value adjoint serial count child partial made i =
+Inv-loop value₀ adjoint₀ serial₀ count₀ child₀ partial₀ seen ticks sum₀ i₀ i-end value adjoint serial count child partial sum i =
     (i ≤ length ticks)
     × (i-end ≡ length ticks)
     × (length ticks < 2 ^ 64)
@@ -19,7 +19,7 @@ Inv-loop value₀ adjoint₀ serial₀ count₀ child₀ partial₀ seen ticks m
     × (length partial ≡ length partial₀)
 
 abbrev μ-loop : tie.MeasureT-loop
-μ-loop value₀ adjoint₀ serial₀ count₀ child₀ partial₀ seen ticks made₀ cell i₀ i-end value adjoint serial count child partial made i =
+μ-loop value₀ adjoint₀ serial₀ count₀ child₀ partial₀ seen ticks sum₀ i₀ i-end value adjoint serial count child partial sum i =
     length ticks - i
 
 pub record-intervals-spec : {M : Type 1} → statement M

@@ -1,6 +1,6 @@
 -- `turn` leaves every lent array as long as it was. What the first call kept of some lies too far back for `search`: the record after it leads there.
-use borrow.Author.Needs.{needs}
 use native.Mathlib.Omega.{arith}
+use borrow.Author.Needs.{needs}
 use Rattle.imaging.proofs.revolution.turn.Statement.{statement}
 use Rattle.imaging.proofs.revolution.turn.Tie as tie
 
