@@ -7,9 +7,9 @@ use mathlib.Core.Bool.{true, false, and-eq-true-iff}
 use mathlib.Core.List.{List, [], _∷_, _++_, append-assoc, append-nil}
 use borrow.Author.Tests.{lt-ltb, le-ltb, leb-true}
 use lib.Dec.{leb}
-use lib.ListN.{length, getD, set, take, drop, length-take, length-set, drop-of-length-le}
+use lib.ListN.{length, getD, set, take, drop, length-set, drop-of-length-le}
 use native.Mathlib.Nat.{mod-eq-of-lt, pow-succ', pow-le-pow-right}
-use lib.Seq.{set-split, drop-at, drop-cons, drop-length, length-take-le}
+use lib.Seq.{set-split, drop-at, drop-cons, length-take-le}
 use Rattle.tape.specs.Listing.{digit, digits, places, decimal}
 use Rattle.imaging.specs.Text.{is-digit, read-on, without, with-decimals}
 

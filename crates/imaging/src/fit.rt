@@ -10,7 +10,6 @@ use crate::report;
 use crate::revolution;
 use crate::revolution::Turned;
 use dual::Cleared;
-use dual::Passed;
 use dual::Read;
 use tape::Tape;
 ghost use Prim.Native.Nat.{_≤_};

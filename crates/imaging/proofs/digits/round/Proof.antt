@@ -2,7 +2,6 @@
 use mathlib.Core.Path.{sym, subst}
 use lib.Dec.{T}
 use lib.Ieee.{ofBits, neg}
-use borrow.Author.Needs.{needs}
 use Rattle.imaging.proofs.digits.round.Statement.{statement}
 use Rattle.imaging.proofs.digits.round.Tie as tie
 
