@@ -11,9 +11,13 @@ use crate::revolution;
 use crate::revolution::Turned;
 use dual::Cleared;
 use dual::Read;
+use tape::MOST_EDGES;
+use tape::MOST_NODES;
 use tape::Tape;
 ghost use Prim.Native.Nat.{_≤_};
 ghost use Rattle.imaging.specs.Flux.{Within};
+
+const SLOTS: usize = MOST_EDGES * MOST_NODES;
 
 const STEPS: usize = 32;
 
@@ -30,8 +34,9 @@ pub struct Step {
     pub refusal: u8,
 }
 
-// The model and what its revolutions came to.
+// Where a step is taken, its model, and what its revolutions came to.
 struct Gathered {
+    drive: Drive,
     model: Model,
     turned: Turned,
 }
@@ -45,12 +50,12 @@ struct Slope {
 pub(crate) fn fit(name: &[u8], flux: Reading, times: &Times, ends: &Ends, ticks: &[u32])
     requires { ⌜ Within flux ⌝ }
 {
-    let mut value = [0.0; 65_535];
-    let mut adjoint = [0.0; 65_535];
-    let mut serial = [0u64; 65_535];
-    let mut count = [0u8; 65_535];
-    let mut child = [0u16; 131_070];
-    let mut partial = [0.0; 131_070];
+    let mut value = [0.0; MOST_NODES];
+    let mut adjoint = [0.0; MOST_NODES];
+    let mut serial = [0u64; MOST_NODES];
+    let mut count = [0u8; MOST_NODES];
+    let mut child = [0u16; SLOTS];
+    let mut partial = [0.0; SLOTS];
     run(
         name,
         &mut value,
@@ -121,17 +126,14 @@ fn take_step(
 ) -> Step
     requires { ⌜ Within flux ⌝ }
 {
-    let tape = before.tape;
-    let drive = before.next;
     let gathered = gather(
-        tape,
+        before,
         value,
         adjoint,
         serial,
         count,
         child,
         partial,
-        drive,
         flux.revolutions,
         times,
         ends,
@@ -145,21 +147,19 @@ fn take_step(
         count,
         child,
         partial,
-        drive,
         flux.intervals,
     )
 }
 
 // Everything up to the last pass.
 fn gather(
-    tape: Tape,
+    before: Step,
     value: &mut [f64],
     adjoint: &mut [f64],
     serial: &mut [u64],
     count: &mut [u8],
     child: &mut [u16],
     partial: &mut [f64],
-    drive: Drive,
     revolutions: usize,
     times: &Times,
     ends: &Ends,
@@ -167,11 +167,11 @@ fn gather(
 ) -> Gathered
     requires { ⌜ revolutions ≤ 64 ⌝ }
 {
-    let marked = begin(tape, value, adjoint, serial, count, child, partial, drive);
-    let before = marked.turned;
-    let model = marked.model;
+    let mut gathered = begin(before, value, adjoint, serial, count, child, partial);
+    let marked = gathered.turned;
+    let model = gathered.model;
     let turned = turn_all(
-        before,
+        marked,
         value,
         adjoint,
         serial,
@@ -184,24 +184,30 @@ fn gather(
         ends,
         ticks,
     );
-    Gathered { model, turned }
+    gathered.turned = turned;
+    gathered
 }
 
 // The model, the mark behind it, and its adjoints cleared.
 fn begin(
-    tape: Tape,
+    before: Step,
     value: &mut [f64],
     adjoint: &mut [f64],
     serial: &mut [u64],
     count: &mut [u8],
     child: &mut [u16],
     partial: &mut [f64],
-    drive: Drive,
 ) -> Gathered {
+    let tape = before.tape;
+    let drive = before.next;
     let start = Made::started(tape);
     let model = model::record_model(start, value, adjoint, serial, count, child, partial, drive);
     let turned = mark(model, value, adjoint, serial, count, child, partial);
-    Gathered { model, turned }
+    Gathered {
+        drive,
+        model,
+        turned,
+    }
 }
 
 fn mark(
@@ -278,7 +284,6 @@ fn finish(
     count: &mut [u8],
     child: &mut [u16],
     partial: &mut [f64],
-    drive: Drive,
     intervals: usize,
 ) -> Step {
     let before = gathered.turned;
@@ -296,6 +301,7 @@ fn finish(
         partial,
     ));
     let model = gathered.model;
+    let drive = gathered.drive;
     step_down(
         turned,
         value,

@@ -5,6 +5,8 @@ ghost use Rattle.imaging.specs.Flux.{Within};
 
 pub const MOST_REVOLUTIONS: usize = 64;
 
+pub const ENDS: usize = MOST_REVOLUTIONS + 1;
+
 pub const MOST_IN_REVOLUTION: usize = 8_192;
 
 pub const MOST_INTERVALS: usize = 65_536;
@@ -15,10 +17,10 @@ pub const SHORTEST_TURN: u32 = 7_200_000;
 pub const LONGEST_TURN: u32 = 8_800_000;
 
 // The time of each revolution, from its index pulse to the next.
-pub type Times = [u32; 64];
+pub type Times = [u32; MOST_REVOLUTIONS];
 
 // How many intervals have passed before the first revolution, which is none, and after each.
-pub type Ends = [usize; 65];
+pub type Ends = [usize; ENDS];
 
 pub enum Fault {
     Unreadable,

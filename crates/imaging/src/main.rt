@@ -28,8 +28,8 @@ fn fit_argument(i: usize) {
 }
 
 fn fit_file(name: &[u8]) {
-    let mut times = [0u32; 64];
-    let mut ends = [0usize; 65];
+    let mut times = [0u32; flux::MOST_REVOLUTIONS];
+    let mut ends = [0usize; flux::ENDS];
     let mut space = [0u32; flux::MOST_INTERVALS];
     let ticks: &mut [u32] = &mut space;
     let reading = file::read(os::open_read(name), &mut times, &mut ends, ticks);
