@@ -1,0 +1,13 @@
+-- `gather` leaves every lent array as long as it was. That there are few revolutions lies too far back for `search`: the record after the first call leads there.
+use borrow.Author.Needs.{needs}
+use native.Mathlib.Omega.{arith}
+use Rattle.imaging.proofs.fit.gather.Statement.{statement}
+use Rattle.imaging.proofs.fit.gather.Tie as tie
+
+pub gather-spec : {M : Type 1} → statement M
+gather-spec =
+    tie.close
+    (tie.spec
+    (λ c κs. search needs)
+    (λ c κs. omega (arith, c .before .before .before .before .before .before .before .before .before .before .before .before))
+    (λ c. search needs) (λ c. search needs) (λ c. search needs) (λ c. search needs) (λ c. search needs) (λ c. search needs) (λ c. search needs))

@@ -1,0 +1,32 @@
+-- `run` is safe and ends: the steps are counted, and no lent array changes its length. What a step kept of them lies too far back for `search`: the record after it leads there.
+use mathlib.Core.Path.{_≡_}
+use Prim.Native.Nat.{_≤_, _-_}
+use native.Mathlib.Omega.{arith}
+use lib.ListN.{length}
+use borrow.Author.Needs.{needs}
+use Rattle.imaging.proofs.fit.run.Statement.{statement}
+use Rattle.imaging.proofs.fit.run.Tie as tie
+
+abbrev Inv-loop : tie.InvT-loop
+Inv-loop name value₀ adjoint₀ serial₀ count₀ child₀ partial₀ flux times ends ticks step₀ i₀ value adjoint serial count child partial step i =
+    (i ≤ 32)
+    × (length value ≡ length value₀)
+    × (length adjoint ≡ length adjoint₀)
+    × (length serial ≡ length serial₀)
+    × (length count ≡ length count₀)
+    × (length child ≡ length child₀)
+    × (length partial ≡ length partial₀)
+
+abbrev μ-loop : tie.MeasureT-loop
+μ-loop name value₀ adjoint₀ serial₀ count₀ child₀ partial₀ flux times ends ticks step₀ i₀ value adjoint serial count child partial step i =
+    32 - i
+
+pub run-spec : {M : Type 1} → statement M
+run-spec =
+    tie.close
+    (tie.spec
+    Inv-loop
+    μ-loop
+    (λ c κs. search needs) (λ c. search needs) (λ c κs. search needs) (λ c. search needs) (λ c κs. search needs) (λ c. search needs) (λ c. search needs)
+    (λ c. omega (arith, c .before .before .before .before .before .before .before .before .before .before .before .before))
+    (λ c κs. search needs) (λ c. search needs) (λ c. search needs) (λ c. search needs) (λ c. search needs) (λ c. search needs) (λ c. search needs) (λ c. search needs))

@@ -1,0 +1,18 @@
+-- `main` ends: the arguments are counted.
+use Prim.Native.Nat.{_≤_, _-_}
+use borrow.Author.Needs.{needs}
+use Rattle.imaging.proofs.main.Statement.{statement}
+use Rattle.imaging.proofs.main.Tie as tie
+
+abbrev Inv-loop : tie.InvT-loop
+Inv-loop arguments i₀ i = 1 ≤ i
+
+abbrev μ-loop : tie.MeasureT-loop
+μ-loop arguments i₀ i = arguments - i
+
+pub main-spec : {M : Type 1} → statement M
+main-spec =
+    tie.close
+    (tie.spec
+    Inv-loop μ-loop
+    (λ c κs. search needs) (λ c. search needs) (λ c κs. search needs) (λ c. search needs) (λ c κs. search needs) (λ c. search needs) (λ c. search needs) (λ c. search needs) (λ c. search needs))

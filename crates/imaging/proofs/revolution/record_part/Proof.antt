@@ -1,0 +1,29 @@
+-- `record_part` is safe and ends: the operations are counted, and no lent array changes its length.
+use mathlib.Core.Path.{_≡_}
+use Prim.Native.Nat.{_≤_, _-_}
+use lib.ListN.{length}
+use borrow.Author.Needs.{needs}
+use Rattle.imaging.proofs.revolution.record_part.Statement.{statement}
+use Rattle.imaging.proofs.revolution.record_part.Tie as tie
+
+abbrev Inv-loop : tie.InvT-loop
+Inv-loop value₀ adjoint₀ serial₀ count₀ child₀ partial₀ part made₀ i₀ i-end value adjoint serial count child partial made i =
+    (i ≤ i-end)
+    × (length value ≡ length value₀)
+    × (length adjoint ≡ length adjoint₀)
+    × (length serial ≡ length serial₀)
+    × (length count ≡ length count₀)
+    × (length child ≡ length child₀)
+    × (length partial ≡ length partial₀)
+
+abbrev μ-loop : tie.MeasureT-loop
+μ-loop value₀ adjoint₀ serial₀ count₀ child₀ partial₀ part made₀ i₀ i-end value adjoint serial count child partial made i =
+    i-end - i
+
+pub record-part-spec : {M : Type 1} → statement M
+record-part-spec =
+    tie.close
+    (tie.spec
+    Inv-loop
+    μ-loop
+    (λ c κs. search needs) (λ c. search needs) (λ c κs. search needs) (λ c κs. search needs) (λ c. search needs) (λ c. search needs) (λ c. search needs) (λ c. search needs) (λ c. search needs) (λ c. search needs) (λ c. search needs) (λ c. search needs) (λ c. search needs) (λ c. search needs))
