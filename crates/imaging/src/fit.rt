@@ -56,8 +56,7 @@ pub(crate) fn fit(name: &[u8], flux: Reading, times: &Times, ends: &Ends, ticks:
     let mut count = [0u8; MOST_NODES];
     let mut child = [0u16; SLOTS];
     let mut partial = [0.0; SLOTS];
-    run(
-        name,
+    let last = run(
         &mut value,
         &mut adjoint,
         &mut serial,
@@ -69,10 +68,18 @@ pub(crate) fn fit(name: &[u8], flux: Reading, times: &Times, ends: &Ends, ticks:
         ends,
         ticks,
     );
+    let read = least(flux.intervals, ticks.len());
+    let fitted = last.next;
+    report::end(
+        name,
+        last,
+        flux,
+        revolution::count_clipped(&ticks[..read], fitted),
+    );
 }
 
+// The last step, or the one that was refused.
 fn run(
-    name: &[u8],
     value: &mut [f64],
     adjoint: &mut [f64],
     serial: &mut [u64],
@@ -83,7 +90,7 @@ fn run(
     times: &Times,
     ends: &Ends,
     ticks: &[u32],
-)
+) -> Step
     requires { ⌜ Within flux ⌝ }
 {
     let mut step = Step::none();
@@ -106,7 +113,7 @@ fn run(
         );
         report::step(i + 1, step);
     }
-    report::end(name, step, flux);
+    step
 }
 
 // A step makes the calls of document 01's demand 3, in its order: start, the model, mark, clear; for each revolution its misfit, the pass to the mark, the rewind; at last the pass from the mark to the start.

@@ -1,4 +1,4 @@
-// The drive model, and how an operation is recorded. What is recorded stands in tables: a function that lends the tape's arrays takes long to prove, and so one call serves all.
+// The drive model, and how an operation is recorded. What is recorded stands in tables, so that one call records it all.
 use expr::Recorded;
 use expr::Supplied;
 use tape::Moved;

@@ -60,21 +60,27 @@ pub(crate) fn step(i: usize, step: Step) {
     decimal(b": misfit ", step.misfit, NINE);
     let drive = step.drive;
     settings(b", speed ", drive);
-    text(b", ");
-    io::print_decimal(STDOUT_FILENO, step.edges);
+    large(b", ", step.edges);
     text(b" edges\n");
 }
 
-// Where the last step leads, or why there is no result.
-pub(crate) fn end(name: &[u8], last: Step, reading: Reading) {
+// Where the last step leads, or why there is no result. What most intervals do not pull at is no fit.
+pub(crate) fn end(name: &[u8], last: Step, reading: Reading, clipped: u64) {
     if last.refusal > 0 {
         text(name);
         number(b": refusal ", last.refusal as usize);
+    } else if clipped > reading.intervals as u64 / 2 {
+        text(name);
+        large(b": not fitted: ", clipped);
+        counted(b" of ", reading.intervals, b"interval");
+        text(b" more than a quarter of a cell off");
     } else {
         let drive = last.next;
         settings(b"fitted: speed ", drive);
         counted(b", from ", reading.revolutions, b"revolution");
         counted(b" and ", reading.intervals, b"interval");
+        large(b", ", clipped);
+        text(b" of these more than a quarter of a cell off");
     }
     text(b"\n");
 }
@@ -160,8 +166,12 @@ fn text_from(bytes: &[u8], from: usize)
 }
 
 fn number(before: &[u8], n: usize) {
+    large(before, n as u64);
+}
+
+fn large(before: &[u8], n: u64) {
     text(before);
-    io::print_decimal(STDOUT_FILENO, n as u64);
+    io::print_decimal(STDOUT_FILENO, n);
 }
 
 fn text(bytes: &[u8]) {

@@ -1,5 +1,6 @@
 // One revolution: its misfit is recorded behind the mark, passed back to it, and dropped.
 use crate::model;
+use crate::model::Drive;
 use crate::model::Made;
 use crate::model::Model;
 use crate::model::Operation;
@@ -239,6 +240,23 @@ fn of_interval(
         3 => model::min(last, Operand::Number(CLIP)),
         _ => model::add(sum, last),
     }
+}
+
+// How many intervals are so far off, on such a drive, that they are clipped.
+pub(crate) fn count_clipped(ticks: &[u32], drive: Drive) -> u64 {
+    let seen = drive.cell * (1.0 / drive.speed);
+    let mut clipped = 0;
+    for i in 0..ticks.len() {
+        if is_clipped(ticks[i] as f64 / CELL, seen) {
+            clipped = std::num::wrapping_add_u64(clipped, 1);
+        }
+    }
+    clipped
+}
+
+fn is_clipped(t: f64, seen: f64) -> bool {
+    let off = t - seen * nearest_cells(t, seen);
+    off * off > CLIP
 }
 
 // How many whole cells, 1 to 8, come nearest to t.

@@ -8,7 +8,7 @@ use Rattle.imaging.proofs.fit.run.Statement.{statement}
 use Rattle.imaging.proofs.fit.run.Tie as tie
 
 abbrev Inv-loop : tie.InvT-loop
-Inv-loop name value₀ adjoint₀ serial₀ count₀ child₀ partial₀ flux times ends ticks step₀ i₀ value adjoint serial count child partial step i =
+Inv-loop value₀ adjoint₀ serial₀ count₀ child₀ partial₀ flux times ends ticks step₀ i₀ value adjoint serial count child partial step i =
     (i ≤ 32)
     × (length value ≡ length value₀)
     × (length adjoint ≡ length adjoint₀)
@@ -18,7 +18,7 @@ Inv-loop name value₀ adjoint₀ serial₀ count₀ child₀ partial₀ flux ti
     × (length partial ≡ length partial₀)
 
 abbrev μ-loop : tie.MeasureT-loop
-μ-loop name value₀ adjoint₀ serial₀ count₀ child₀ partial₀ flux times ends ticks step₀ i₀ value adjoint serial count child partial step i =
+μ-loop value₀ adjoint₀ serial₀ count₀ child₀ partial₀ flux times ends ticks step₀ i₀ value adjoint serial count child partial step i =
     32 - i
 
 pub run-spec : {M : Type 1} → statement M
@@ -29,4 +29,5 @@ run-spec =
     μ-loop
     (λ c κs. search needs) (λ c. search needs) (λ c κs. search needs) (λ c. search needs) (λ c κs. search needs) (λ c. search needs) (λ c. search needs)
     (λ c. omega (arith, c .before .before .before .before .before .before .before .before .before .before .before .before))
-    (λ c κs. search needs) (λ c. search needs) (λ c. search needs) (λ c. search needs) (λ c. search needs) (λ c. search needs) (λ c. search needs) (λ c. search needs))
+    (λ c. search needs) (λ c. search needs) (λ c. search needs) (λ c. search needs) (λ c. search needs) (λ c. search needs) (λ c. search needs)
+    (λ c. search needs) (λ c. search needs) (λ c. search needs) (λ c. search needs) (λ c. search needs) (λ c. search needs) (λ c. search needs))
