@@ -65,16 +65,15 @@ pub(crate) fn turn(
         time,
         ticks,
     );
-    let root = misfit.x;
     pass_back(
-        before.with(misfit),
+        before,
         value,
         adjoint,
         serial,
         count,
         child,
         partial,
-        root,
+        misfit,
     )
 }
 
@@ -86,13 +85,15 @@ fn pass_back(
     count: &mut [u8],
     child: &mut [u16],
     partial: &mut [f64],
-    root: Operand,
+    misfit: Made,
 ) -> Turned {
-    if before.refusal > 0 {
-        return before;
+    let recorded = before.with(misfit);
+    if recorded.refusal > 0 {
+        return recorded;
     }
-    let tape = before.tape;
-    before
+    let tape = recorded.tape;
+    let root = misfit.x;
+    recorded
         .passed(dual::passes::backward_to_mark(
             tape,
             value,

@@ -1,4 +1,4 @@
-// A round: a full tape recorded by its plan, walked from its last node, and rewound.
+// A round: the tape is rewound, filled by its plan, and walked from its last node.
 use crate::plan::NODES;
 use crate::plan::left_of;
 use crate::plan::op_of;
@@ -94,10 +94,7 @@ fn one_more(
         partial,
         &*serials,
     );
-    Round {
-        tape: moved(tape.rewind_to_init()),
-        edges,
-    }
+    Round { tape, edges }
 }
 
 fn record_all(
@@ -112,7 +109,7 @@ fn record_all(
     plain: &[f64; NODES],
     serials: &mut [u64; NODES],
 ) -> Tape {
-    let mut tape = before;
+    let mut tape = moved(before.rewind_to_init());
     for i in 0..NODES {
         tape = record_one(
             tape,

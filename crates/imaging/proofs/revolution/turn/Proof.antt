@@ -8,7 +8,7 @@ pub turn-spec : {M : Type 1} → statement M
 turn-spec =
     tie.close
     (tie.spec
-    (λ c. search needs) (λ c κs. search needs) (λ c κs. search needs) (λ c κs. search needs)
+    (λ c. search needs) (λ c κs. search needs) (λ c κs. search needs)
     (λ c. omega (arith, c .before .before .before .before .before .before .before .before .before .before .before .before))
     (λ c. omega (arith, c .before .before .before .before .before .before .before .before .before .before .before .before))
     (λ c. omega (arith, c .before .before .before .before .before .before .before .before .before .before .before .before))
