@@ -19,10 +19,13 @@ ghost use Rattle.imaging.specs.Flux.{Within};
 
 const SLOTS: usize = MOST_EDGES * MOST_NODES;
 
-const STEPS: usize = 32;
+const MOST_STEPS: usize = 512;
 
-// At 1/48 the steps settle on any track whose intervals are 4 cells long at most, as in MFM.
-const RATE: f64 = 1.0 / 48.0;
+// How much an interval of 4 cells pulls, the longest that MFM has: its cells, squared. An index time weighs as much.
+const LONGEST_PULL: f64 = 16.0;
+
+// A move of either parameter that is less than this no longer shows in what is written.
+const SETTLED: f64 = 1.0 / 268_435_456.0;
 
 // A step: where it was taken, the misfit an interval there, the edges that its passes visited, and where it leads; or its refusal.
 pub struct Step {
@@ -47,8 +50,8 @@ struct Slope {
     refusal: u8,
 }
 
-pub(crate) fn fit(name: &[u8], flux: Reading, times: &Times, ends: &Ends, ticks: &[u32])
-    requires { ⌜ Within flux ⌝ }
+pub(crate) fn fit(name: &[u8], reading: Reading, times: &Times, ends: &Ends, ticks: &[u32])
+    requires { ⌜ Within reading ⌝ }
 {
     let mut value = [0.0; MOST_NODES];
     let mut adjoint = [0.0; MOST_NODES];
@@ -63,17 +66,17 @@ pub(crate) fn fit(name: &[u8], flux: Reading, times: &Times, ends: &Ends, ticks:
         &mut count,
         &mut child,
         &mut partial,
-        flux,
+        reading,
         times,
         ends,
         ticks,
     );
-    let read = least(flux.intervals, ticks.len());
+    let read = least(reading.intervals, ticks.len());
     let fitted = last.next;
     report::end(
         name,
         last,
-        flux,
+        reading,
         revolution::count_clipped(&ticks[..read], fitted),
     );
 }
@@ -86,16 +89,16 @@ fn run(
     count: &mut [u8],
     child: &mut [u16],
     partial: &mut [f64],
-    flux: Reading,
+    reading: Reading,
     times: &Times,
     ends: &Ends,
     ticks: &[u32],
 ) -> Step
-    requires { ⌜ Within flux ⌝ }
+    requires { ⌜ Within reading ⌝ }
 {
     let mut step = Step::none();
-    for i in 0..STEPS {
-        if step.refusal > 0 {
+    for i in 0..MOST_STEPS {
+        if step.is_over() {
             break;
         }
         step = take_step(
@@ -106,7 +109,7 @@ fn run(
             count,
             child,
             partial,
-            flux,
+            reading,
             times,
             ends,
             ticks,
@@ -126,12 +129,12 @@ fn take_step(
     count: &mut [u8],
     child: &mut [u16],
     partial: &mut [f64],
-    flux: Reading,
+    reading: Reading,
     times: &Times,
     ends: &Ends,
     ticks: &[u32],
 ) -> Step
-    requires { ⌜ Within flux ⌝ }
+    requires { ⌜ Within reading ⌝ }
 {
     let gathered = gather(
         before,
@@ -141,7 +144,7 @@ fn take_step(
         count,
         child,
         partial,
-        flux.revolutions,
+        reading.revolutions,
         times,
         ends,
         ticks,
@@ -154,7 +157,7 @@ fn take_step(
         count,
         child,
         partial,
-        flux.intervals,
+        reading.intervals,
     )
 }
 
@@ -369,21 +372,36 @@ fn slope_of(read: Read) -> Slope {
 }
 
 impl Step {
-    // Before the first step.
+    // Before the first step, which is taken at nominal settings.
     fn none() -> Step {
         let tape = Tape::new();
+        let nowhere = Drive {
+            speed: 0.0,
+            cell: 0.0,
+        };
         let nominal = Drive {
             speed: 1.0,
             cell: 1.0,
         };
         Step {
             tape,
-            drive: nominal,
+            drive: nowhere,
             misfit: 0.0,
             edges: 0,
             next: nominal,
             refusal: 0,
         }
+    }
+
+    // Whether the step leads no further: both parameters stay where they are.
+    pub(crate) fn is_settled(self) -> bool {
+        let drive = self.drive;
+        let next = self.next;
+        is_small(next.speed - drive.speed) & is_small(next.cell - drive.cell)
+    }
+
+    fn is_over(self) -> bool {
+        self.is_settled() | (self.refusal > 0)
     }
 
     fn taken(
@@ -395,9 +413,10 @@ impl Step {
     ) -> Step {
         let tape = turned.tape;
         let all = std::num::nearest_u64_to_f64(intervals as u64);
+        let steep = all * steepest(drive);
         let next = Drive {
-            speed: drive.speed - RATE * by_speed.x / all,
-            cell: drive.cell - RATE * by_cell.x / all,
+            speed: drive.speed - by_speed.x / steep,
+            cell: drive.cell - by_cell.x / steep,
         };
         Step {
             tape,
@@ -418,4 +437,16 @@ impl Step {
 
 fn first(refusal: u8, later: u8) -> u8 {
     if refusal > 0 { refusal } else { later }
+}
+
+fn is_small(x: f64) -> bool {
+    (x < SETTLED) & (0.0 - x < SETTLED)
+}
+
+// No direction is steeper, an interval, than the two parameters' curvatures together: a step of the gradient over this much overshoots on no track of MFM.
+fn steepest(drive: Drive) -> f64 {
+    let turn = 1.0 / drive.speed;
+    let by_cell = turn * turn;
+    let by_speed = by_cell * by_cell * (drive.cell * drive.cell + 1.0);
+    2.0 * LONGEST_PULL * (by_speed + by_cell)
 }

@@ -1,4 +1,4 @@
-// Fits drive speed and bit-cell time to recorded flux, all revolutions kept: `imaging FILE..`, or flux.txt where no file is named.
+// Fits drive speed and bit-cell time to recorded flux, all revolutions kept: `imaging FILE..`.
 mod digits;
 mod file;
 mod fit;
@@ -9,9 +9,6 @@ mod revolution;
 
 fn main() {
     let arguments = os::arg_count();
-    if arguments < 2 {
-        fit_file(b"flux.txt");
-    }
     for i in 1..arguments {
         fit_argument(i);
     }

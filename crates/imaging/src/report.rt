@@ -53,6 +53,9 @@ pub(crate) fn step(i: usize, step: Step) {
         return;
     }
     text(b"step ");
+    if i < 100 {
+        text(b" ");
+    }
     if i < 10 {
         text(b" ");
     }
@@ -64,25 +67,34 @@ pub(crate) fn step(i: usize, step: Step) {
     text(b" edges\n");
 }
 
-// Where the last step leads, or why there is no result. What most intervals do not pull at is no fit.
+// Where the last step leads, or why there is no result.
 pub(crate) fn end(name: &[u8], last: Step, reading: Reading, clipped: u64) {
     if last.refusal > 0 {
         text(name);
         number(b": refusal ", last.refusal as usize);
-    } else if clipped > reading.intervals as u64 / 2 {
+    } else if !last.is_settled() {
         text(name);
-        large(b": not fitted: ", clipped);
-        counted(b" of ", reading.intervals, b"interval");
-        text(b" more than a quarter of a cell off");
+        text(b": not fitted: the steps do not settle");
+    } else if clipped > reading.intervals as u64 / 8 {
+        text(name);
+        off(b": not fitted: ", clipped, reading);
     } else {
-        let drive = last.next;
-        settings(b"fitted: speed ", drive);
-        counted(b", from ", reading.revolutions, b"revolution");
-        counted(b" and ", reading.intervals, b"interval");
-        large(b", ", clipped);
-        text(b" of these more than a quarter of a cell off");
+        fitted(last, reading, clipped);
     }
     text(b"\n");
+}
+
+fn fitted(last: Step, reading: Reading, clipped: u64) {
+    let drive = last.next;
+    settings(b"fitted: speed ", drive);
+    counted(b", from ", reading.revolutions, b"revolution");
+    off(b"; ", clipped, reading);
+}
+
+fn off(before: &[u8], clipped: u64, reading: Reading) {
+    large(before, clipped);
+    counted(b" of ", reading.intervals, b"interval");
+    text(b" more than a quarter of a cell off");
 }
 
 pub(crate) fn fault(name: &[u8], reading: Reading) {

@@ -257,7 +257,7 @@ pub(crate) fn count_clipped(ticks: &[u32], drive: Drive) -> u64 {
 
 fn is_clipped(t: f64, seen: f64) -> bool {
     let off = t - seen * nearest_cells(t, seen);
-    off * off > CLIP
+    !(off * off <= CLIP)
 }
 
 // How many whole cells, 1 to 8, come nearest to t.

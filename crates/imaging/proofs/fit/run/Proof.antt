@@ -8,8 +8,8 @@ use Rattle.imaging.proofs.fit.run.Statement.{statement}
 use Rattle.imaging.proofs.fit.run.Tie as tie
 
 abbrev Inv-loop : tie.InvT-loop
-Inv-loop value₀ adjoint₀ serial₀ count₀ child₀ partial₀ flux times ends ticks step₀ i₀ value adjoint serial count child partial step i =
-    (i ≤ 32)
+Inv-loop value₀ adjoint₀ serial₀ count₀ child₀ partial₀ reading times ends ticks step₀ i₀ value adjoint serial count child partial step i =
+    (i ≤ 512)
     × (length value ≡ length value₀)
     × (length adjoint ≡ length adjoint₀)
     × (length serial ≡ length serial₀)
@@ -18,8 +18,8 @@ Inv-loop value₀ adjoint₀ serial₀ count₀ child₀ partial₀ flux times e
     × (length partial ≡ length partial₀)
 
 abbrev μ-loop : tie.MeasureT-loop
-μ-loop value₀ adjoint₀ serial₀ count₀ child₀ partial₀ flux times ends ticks step₀ i₀ value adjoint serial count child partial step i =
-    32 - i
+μ-loop value₀ adjoint₀ serial₀ count₀ child₀ partial₀ reading times ends ticks step₀ i₀ value adjoint serial count child partial step i =
+    512 - i
 
 pub run-spec : {M : Type 1} → statement M
 run-spec =
@@ -27,7 +27,7 @@ run-spec =
     (tie.spec
     Inv-loop
     μ-loop
-    (λ c κs. search needs) (λ c. search needs) (λ c κs. search needs) (λ c. search needs) (λ c κs. search needs) (λ c. search needs) (λ c. search needs)
+    (λ c κs. search needs) (λ c. search needs) (λ c κs. search needs) (λ c κs. search needs) (λ c. search needs) (λ c κs. search needs) (λ c. search needs) (λ c. search needs)
     (λ c. omega (arith, c .before .before .before .before .before .before .before .before .before .before .before .before))
     (λ c. search needs) (λ c. search needs) (λ c. search needs) (λ c. search needs) (λ c. search needs) (λ c. search needs) (λ c. search needs)
     (λ c. search needs) (λ c. search needs) (λ c. search needs) (λ c. search needs) (λ c. search needs) (λ c. search needs) (λ c. search needs))
