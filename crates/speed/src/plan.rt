@@ -1,5 +1,5 @@
 // What is recorded: operations 1 to 7 mixed, in blocks of 16 nodes behind 15 leaves. A block's last node adds what the block came to to the sum of those before it, so that the last adjoint
-// reaches every block; the values in a block stay of moderate size and a block is short, so that nothing overflows on the way down.
+// reaches every block. No operation makes a large number or a small one, and a block is short, so that nothing overflows on the way down.
 ghost use Prim.Native.Nat.{_≤_, _<_};
 
 pub const NODES: usize = 65_535;
