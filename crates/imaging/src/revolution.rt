@@ -9,6 +9,8 @@ use tape::Moved;
 use tape::Operand;
 use tape::Refusal;
 use tape::Tape;
+ghost use Prim.Native.Nat.{_≤_};
+ghost use lib.ListN.{length};
 
 // Nominal: a turn at 300 rpm, and a bit cell of 2,000 ns, in ticks of 25 ns.
 const TURN: f64 = 8_000_000.0;
@@ -107,6 +109,7 @@ fn pass_back(
         .moved(tape.rewind_to_mark())
 }
 
+// The index time, and then every interval.
 fn record_misfit(
     tape: Tape,
     value: &mut [f64],
@@ -119,53 +122,27 @@ fn record_misfit(
     time: u32,
     ticks: &[u32],
 ) -> Made {
+    let mut sum = Made::nothing(tape);
+    for i in 0..=ticks.len() {
+        let part = part_at(i, sum, model, time, ticks);
+        sum = record_part(sum, value, adjoint, serial, count, child, partial, part);
+    }
+    sum
+}
+
+fn part_at(i: usize, sum: Made, model: Model, time: u32, ticks: &[u32]) -> Part
+    requires { ⌜ i ≤ length (now ticks) ⌝ }
+{
     let turn = model.turn;
     let seen = model.seen;
-    let index = Part::Index(turn, time as f64 / TURN, weight(ticks.len()));
-    let made = record_part(
-        Made::nothing(tape),
-        value,
-        adjoint,
-        serial,
-        count,
-        child,
-        partial,
-        index,
-    );
-    record_intervals(
-        made,
-        value,
-        adjoint,
-        serial,
-        count,
-        child,
-        partial,
-        seen,
-        ticks,
-    )
+    if i == 0 {
+        return Part::Index(turn, time as f64 / TURN, weight(ticks.len()));
+    }
+    interval(sum, seen, ticks[i - 1] as f64 / CELL)
 }
 
 fn weight(intervals: usize) -> f64 {
     INDEX_WEIGHT * std::num::nearest_u64_to_f64(intervals as u64)
-}
-
-fn record_intervals(
-    index: Made,
-    value: &mut [f64],
-    adjoint: &mut [f64],
-    serial: &mut [u64],
-    count: &mut [u8],
-    child: &mut [u16],
-    partial: &mut [f64],
-    seen: Made,
-    ticks: &[u32],
-) -> Made {
-    let mut sum = index;
-    for i in 0..ticks.len() {
-        let part = interval(sum, seen, ticks[i] as f64 / CELL);
-        sum = record_part(sum, value, adjoint, serial, count, child, partial, part);
-    }
-    sum
 }
 
 fn interval(sum: Made, seen: Made, t: f64) -> Part {
