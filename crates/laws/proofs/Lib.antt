@@ -1,0 +1,7 @@
+pub mod Floats
+pub mod Laws
+pub mod Methods
+pub mod Apart
+pub mod Regrouped
+pub mod Examples
+pub mod Proved
