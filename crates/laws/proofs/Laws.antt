@@ -3,19 +3,17 @@ use Prim.Native.Nat.{ℕ, zero, suc}
 use mathlib.Core.Path.{_≡_, refl, ap, _∙_}
 use lib.Ieee.{binary64}
 use Rattle.forward.specs.Forward.{Fwd, sum, product}
+use Rattle.forward.proofs.Parts.{pair}
 use Rattle.laws.specs.Laws.{Laws}
 use Rattle.laws.proofs.Floats.{float-laws}
 
-pair : {A B : Type 0} {x u : A} {y v : B} → x ≡ u → y ≡ v → _≡_ {A = A × B} (x, y) (u, v)
-pair p q = cc
-
 pub laws : (n : ℕ) → Laws n
 laws zero = record {
-  sum-exchanged = float-laws .sum-exchanged binary64;
-  product-exchanged = float-laws .product-exchanged binary64;
-  minus-is-plus-negated = float-laws .minus-is-plus-negated binary64;
-  minus-plain-is-plus-negated = float-laws .minus-is-plus-negated binary64;
-  negated-twice = float-laws .negated-twice;
+  sum-exchanged = λ x y. float-laws .sum-exchanged binary64 x y;
+  product-exchanged = λ x y. float-laws .product-exchanged binary64 x y;
+  minus-is-plus-negated = λ x y. float-laws .minus-is-plus-negated binary64 x y;
+  minus-plain-is-plus-negated = λ x k. float-laws .minus-is-plus-negated binary64 x k;
+  negated-twice = λ x. float-laws .negated-twice x;
 }
 laws (suc n) =
     let below = laws n in
