@@ -1,9 +1,9 @@
--- Laws of the floats, over `lib.Ieee`, for any format. Assumes nothing: the floats are any floats, of no format or of another one too.
--- An exact result is a fraction that does not depend on the order of the operands, and `round` is handed the same one.
+-- Laws of the floats, over `lib.Ieee`, for any format. Assumes nothing: x and y are any floats, and need not fit the format.
+-- Either way round the exact sum or product is the same fraction with the same sign, and `round` is handed the same one.
 use Prim.Native.Nat.{ℕ, _+_, _-_, _*_, _<_, _≤_}
 use native.Mathlib.Omega.{arith}
 use mathlib.Core.Path.{_≡_, refl, sym, ap, _∙_}
-use mathlib.Core.Bool.{Bool, true, false, not, _&&_, Bool·beq, cond}
+use mathlib.Core.Bool.{Bool, true, false, not, cond}
 use lib.Dec.{T, ltb, eqb, ltb→lt, nltb→le}
 use lib.Ieee.{Float, nan, inf, fin, Format, unlike, up, down, round, add, sub, mul, neg}
 use lib.Ieee as ieee

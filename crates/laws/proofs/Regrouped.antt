@@ -2,10 +2,10 @@
 use Prim.Native.Nat.{ℕ}
 use mathlib.Core.Path.{_≡_, refl, sym, ap, _∙_}
 use mathlib.Core.List.{[], _∷_}
-use lib.Ieee.{Float, binary64, add, div, neg, ofInt, toBits}
-use Rattle.forward.specs.Forward.{Fwd, constant, value, sum}
+use lib.Ieee.{Float, add, div, neg, ofInt, toBits}
+use Rattle.forward.specs.Forward.{constant, value, sum}
 use Rattle.forward.proofs.Values.{values}
-use Rattle.laws.specs.Regrouped.{left-first, right-first, Regroups, first, second, third, NotRegrouped}
+use Rattle.laws.specs.Regrouped.{left-first, right-first, Regroups, NotRegrouped}
 use Rattle.laws.specs.Shown.{Changed, tenths}
 use Rattle.laws.proofs.Apart.{changed}
 
