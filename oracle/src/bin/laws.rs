@@ -61,21 +61,32 @@ fn safe() {
     line!(both, -(-x), x; x = number(1.0, -0.0));
 }
 
-fn not_safe() {
+fn rounded() {
     line!(each, (x + y) + z, x + (y + z); x = 0.1, y = 0.2, z = 0.3);
     line!(each, (x + y) + z, x + (y + z); x = number(1.0, 3.0), y = number(2.0, HIGH), z = number(3.0, -HIGH));
+    line!(each, (x + y) + z, (x + z) + y; x = number(1.0, 3.0), y = number(2.0, HIGH), z = number(3.0, -HIGH));
     line!(each, (x - y) - z, x - (y + z); x = 0.3, y = 0.1, z = 0.2);
     line!(each, (x * y) * z, x * (y * z); x = 0.1, y = 0.2, z = 0.3);
     line!(each, x * (y + z), x * y + x * z; x = 0.1, y = 0.1, z = 0.3);
+    line!(each, x / y, x * (1.0 / y); x = number(49.0, 0.0), y = number(49.0, 0.0));
+}
+
+fn signs_of_zero() {
     line!(each, -(x - y), y - x; x = 1.0, y = 1.0);
     line!(each, (-x) * y, -(x * y); x = number(1.0, 1.0), y = number(1.0, -1.0));
-    line!(each, x / y, x * (1.0 / y); x = number(49.0, 0.0), y = number(49.0, 0.0));
-    line!(each, x / k, x / Fwd1::constant(k); x = number(49.0, 0.0), k = 49.0);
-    line!(each, x + k, x + Fwd1::constant(k); x = number(1.0, -0.0), k = 2.0);
-    line!(each, x * k, x * Fwd1::constant(k); x = number(f64::INFINITY, 1.0), k = 2.0);
-    line!(each, k - x, (-x) + k; k = 3.0, x = Fwd2::constant(0.0));
+    line!(each, -x, 0.0 - x; x = number(0.0, 0.0));
     line!(each, x + Fwd1::zero(), x; x = number(1.0, -0.0));
     line!(each, x * Fwd1::one(), x; x = number(1.0, -0.0));
+}
+
+fn plain_numbers() {
+    line!(each, x + k, x + Fwd1::constant(k); x = number(1.0, -0.0), k = 2.0);
+    line!(each, x * k, x * Fwd1::constant(k); x = number(f64::INFINITY, 1.0), k = 2.0);
+    line!(each, x / k, x / Fwd1::constant(k); x = number(49.0, 0.0), k = 49.0);
+    line!(each, k - x, (-x) + k; x = Fwd2::constant(0.0), k = 3.0);
+}
+
+fn infinities_and_ties() {
     line!(each, x - x, Fwd1::zero(); x = number(f64::INFINITY, 1.0));
     line!(each, x.max_val(y), y.max_val(x); x = number(1.0, 5.0), y = number(1.0, 7.0));
     line!(each, x.min_val(y), y.min_val(x); x = number(1.0, 5.0), y = number(1.0, 7.0));
@@ -83,5 +94,8 @@ fn not_safe() {
 
 fn main() {
     safe();
-    not_safe();
+    rounded();
+    signs_of_zero();
+    plain_numbers();
+    infinities_and_ties();
 }
