@@ -1,6 +1,6 @@
 -- Numbers with other bits are other numbers.
 use Prim.Native.Nat.{ℕ}
-use mathlib.Core.Path.{_≡_, sym, ap, subst, _∙_}
+use mathlib.Core.Path.{_≡_, ap, subst}
 use mathlib.Core.Bool.{Bool, true, false, not, _&&_}
 use mathlib.Core.List.{List, [], _∷_}
 use lib.Dec.{T, eqb, eqb-refl, T-not}
@@ -24,8 +24,8 @@ same-as-itself (k ∷ ks) = both (eqb k k) (same ks ks) (eqb-refl k) (same-as-it
 unlike : (ks ls : List ℕ) → T (not (same ks ls)) → ks ≡ ls → ⊥
 unlike ks ls t e = T-not (same ks ls) t (subst (λ l. T (same ks l)) e (same-as-itself ks))
 
-pub apart : (n : ℕ) (x y : Fwd n) (ks ls : List ℕ) → bits n x ≡ ks → bits n y ≡ ls → T (not (same ks ls)) → x ≡ y → ⊥
-apart n x y ks ls p q t e = unlike ks ls t (sym p ∙ ap (bits n) e ∙ q)
+pub apart : (n : ℕ) (x y : Fwd n) → T (not (same (bits n x) (bits n y))) → x ≡ y → ⊥
+apart n x y t e = unlike (bits n x) (bits n y) t (ap (bits n) e)
 
-pub changed : (n : ℕ) (x y : Fwd n) (ks ls : List ℕ) → bits n x ≡ ks → bits n y ≡ ls → T (not (same ks ls)) → Changed n x y ks ls
-changed n x y ks ls p q t = (p, q, apart n x y ks ls p q t)
+pub changed : (n : ℕ) (x y : Fwd n) (ks ls : List ℕ) → bits n x ≡ ks → bits n y ≡ ls → T (not (same (bits n x) (bits n y))) → Changed n x y ks ls
+changed n x y ks ls p q t = (p, q, apart n x y t)

@@ -3,7 +3,7 @@ use Rattle.laws.specs.Floats.{FloatLaws}
 use Rattle.laws.specs.Laws.{AtEveryOrder}
 use Rattle.laws.specs.Methods.{OfTheCode}
 use Rattle.laws.specs.Regrouped.{NotRegrouped}
-use Rattle.laws.specs.Examples.{Safe, NotSafe}
+use Rattle.laws.specs.Examples.{Safe, NotSafe, OnATape}
 use Rattle.laws.proofs.Floats as floats
 use Rattle.laws.proofs.Laws as every-order
 use Rattle.laws.proofs.Methods as methods
@@ -27,3 +27,6 @@ safe = examples.safe
 
 not-safe : NotSafe
 not-safe = examples.not-safe
+
+on-a-tape : OnATape
+on-a-tape = examples.on-a-tape

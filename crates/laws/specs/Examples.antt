@@ -46,10 +46,14 @@ pub record NotSafe : Type 0 where
   pub products-regrouped : Changed 0 (product 0 (product 0 (tenths 1) (tenths 2)) (tenths 3)) (product 0 (tenths 1) (product 0 (tenths 2) (tenths 3))) (0x3f78_9374_bc6a_7efb ∷ []) (0x3f78_9374_bc6a_7efa ∷ [])
   -- x * (y + z) and x * y + x * z
   pub multiplied-out : Changed 0 (product 0 (tenths 1) (sum 0 (tenths 1) (tenths 3))) (sum 0 (product 0 (tenths 1) (tenths 1)) (product 0 (tenths 1) (tenths 3))) (0x3fa4_7ae1_47ae_147c ∷ []) (0x3fa4_7ae1_47ae_147b ∷ [])
+  -- (x * y) / z and x * (y / z)
+  pub quotient-regrouped : Changed 0 (quotient 0 (product 0 (tenths 1) (tenths 1)) (tenths 1)) (product 0 (tenths 1) (quotient 0 (tenths 1) (tenths 1))) (0x3fb9_9999_9999_999b ∷ []) (0x3fb9_9999_9999_999a ∷ [])
   -- x / y and x * (1 / y)
   pub by-the-reciprocal : Changed 1 (quotient 1 forty-nine forty-nine) (product 1 forty-nine (plain-quotient 1 one forty-nine)) (0x3ff0_0000_0000_0000 ∷ 0 ∷ []) (0x3fef_ffff_ffff_ffff ∷ 0 ∷ [])
   -- -(x - y) and y - x
   pub minus-out-of-a-difference : Changed 0 (negation 0 (difference 0 (float 1) (float 1))) (difference 0 (float 1) (float 1)) (0x8000_0000_0000_0000 ∷ []) (0 ∷ [])
+  -- -(x + y) and -x - y
+  pub minus-out-of-a-sum : Changed 0 (negation 0 (sum 0 (float 1) (neg (float 1)))) (difference 0 (neg (float 1)) (neg (float 1))) (0x8000_0000_0000_0000 ∷ []) (0 ∷ [])
   -- (-x) * y and -(x * y)
   pub minus-out-of-a-product : Changed 1 (product 1 (negation 1 (float 1, float 1)) (float 1, neg (float 1))) (negation 1 (product 1 (float 1, float 1) (float 1, neg (float 1)))) (0xbff0_0000_0000_0000 ∷ 0 ∷ []) (0xbff0_0000_0000_0000 ∷ 0x8000_0000_0000_0000 ∷ [])
   -- -x and 0 - x
@@ -71,3 +75,10 @@ pub record NotSafe : Type 0 where
   -- max of x and y, and of y and x; min likewise
   pub max-exchanged : Changed 1 (max-val 1 (float 1, float 5) (float 1, float 7)) (max-val 1 (float 1, float 7) (float 1, float 5)) (0x3ff0_0000_0000_0000 ∷ 0x4014_0000_0000_0000 ∷ []) (0x3ff0_0000_0000_0000 ∷ 0x401c_0000_0000_0000 ∷ [])
   pub min-exchanged : Changed 1 (min-val 1 (float 1, float 5) (float 1, float 7)) (min-val 1 (float 1, float 7) (float 1, float 5)) (0x3ff0_0000_0000_0000 ∷ 0x4014_0000_0000_0000 ∷ []) (0x3ff0_0000_0000_0000 ∷ 0x401c_0000_0000_0000 ∷ [])
+
+-- on a tape, whose negation is 0 - x: at -0 and +0
+pub record OnATape : Type 0 where
+  -- x - y and x + (-y)
+  pub minus-is-not-plus-negated : Changed 0 (difference 0 (neg nought) nought) (sum 0 (neg nought) (difference 0 nought nought)) (0x8000_0000_0000_0000 ∷ []) (0 ∷ [])
+  -- -(-x) and x
+  pub not-negated-twice : Changed 0 (difference 0 nought (difference 0 nought (neg nought))) (neg nought) (0 ∷ []) (0x8000_0000_0000_0000 ∷ [])
