@@ -24,8 +24,5 @@ same-as-itself (k ∷ ks) = both (eqb k k) (same ks ks) (eqb-refl k) (same-as-it
 unlike : (ks ls : List ℕ) → T (not (same ks ls)) → ks ≡ ls → ⊥
 unlike ks ls t e = T-not (same ks ls) t (subst (λ l. T (same ks l)) e (same-as-itself ks))
 
-pub apart : (n : ℕ) (x y : Fwd n) → T (not (same (bits n x) (bits n y))) → x ≡ y → ⊥
-apart n x y t e = unlike (bits n x) (bits n y) t (ap (bits n) e)
-
 pub changed : (n : ℕ) (x y : Fwd n) (ks ls : List ℕ) → bits n x ≡ ks → bits n y ≡ ls → T (not (same (bits n x) (bits n y))) → Changed n x y ks ls
-changed n x y ks ls p q t = (p, q, apart n x y t)
+changed n x y ks ls p q t = (p, q, λ e. unlike (bits n x) (bits n y) t (ap (bits n) e))

@@ -2,7 +2,7 @@
 use Rattle.laws.specs.Floats.{FloatLaws}
 use Rattle.laws.specs.Laws.{AtEveryOrder}
 use Rattle.laws.specs.Methods.{OfTheCode}
-use Rattle.laws.specs.Regrouped.{NotRegrouped}
+use Rattle.laws.specs.Regrouped.{Cases, AtNoOrder}
 use Rattle.laws.specs.Examples.{Safe, NotSafe, OnATape}
 use Rattle.laws.proofs.Floats as floats
 use Rattle.laws.proofs.Laws as every-order
@@ -19,8 +19,11 @@ at-every-order = every-order.laws
 of-the-code : OfTheCode
 of-the-code = methods.of-the-code
 
-not-regrouped : NotRegrouped
-not-regrouped = regrouped.not-regrouped
+cases : Cases
+cases = regrouped.cases
+
+at-no-order : AtNoOrder
+at-no-order = regrouped.at-no-order
 
 safe : Safe
 safe = examples.safe

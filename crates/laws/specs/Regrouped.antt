@@ -29,10 +29,13 @@ second = (float 2, float (2 ^ 53))
 abbrev pub third : Fwd 1
 third = (float 3, neg (float (2 ^ 53)))
 
-pub record NotRegrouped : Type 0 where
+-- two cases in which it is not so
+pub record Cases : Type 0 where
   -- order 0: (0.1 + 0.2) + 0.3 is 0.6000000000000001, and 0.1 + (0.2 + 0.3) is 0.6
   pub floats : Changed 0 (left-first 0 (tenths 1) (tenths 2) (tenths 3)) (right-first 0 (tenths 1) (tenths 2) (tenths 3)) (0x3fe3_3333_3333_3334 ∷ []) (0x3fe3_3333_3333_3333 ∷ [])
   -- inside a derivative part: the value is 6 either way, and the derivative (3 + 2^53) - 2^53 is 4 while 3 + (2^53 - 2^53) is 3
   pub derivative-part : Changed 1 (left-first 1 first second third) (right-first 1 first second third) (0x4018_0000_0000_0000 ∷ 0x4010_0000_0000_0000 ∷ []) (0x4018_0000_0000_0000 ∷ 0x4008_0000_0000_0000 ∷ [])
-  -- and so at every order
-  pub at-no-order : (n : ℕ) → Regroups n → ⊥
+
+-- and there is no order at which it is so
+abbrev pub AtNoOrder : Type 0
+AtNoOrder = (n : ℕ) → Regroups n → ⊥
