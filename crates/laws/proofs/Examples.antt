@@ -1,7 +1,7 @@
 -- Each line by computation.
 use mathlib.Core.Path.{refl}
 use lib.Ieee.{add, sub, mul, div, neg, le, ofBits, ofInt, toBits}
-use Rattle.laws.specs.Examples.{Safe, NotSafe, OnATape}
+use Rattle.laws.specs.Examples.{Safe, NotSafe}
 use Rattle.laws.proofs.Apart.{changed}
 
 pub safe : Safe
@@ -37,7 +37,3 @@ not-safe = record {
   max-exchanged = changed 1 _ _ _ _ refl refl tt;
   min-exchanged = changed 1 _ _ _ _ refl refl tt;
 }
-
-pub on-a-tape : OnATape
-unfolding add sub neg ofBits toBits
-on-a-tape = record { minus-is-not-plus-negated = changed 0 _ _ _ _ refl refl tt; not-negated-twice = changed 0 _ _ _ _ refl refl tt }

@@ -75,10 +75,3 @@ pub record NotSafe : Type 0 where
   -- max of x and y, and of y and x; min likewise
   pub max-exchanged : Changed 1 (max-val 1 (float 1, float 5) (float 1, float 7)) (max-val 1 (float 1, float 7) (float 1, float 5)) (0x3ff0_0000_0000_0000 ∷ 0x4014_0000_0000_0000 ∷ []) (0x3ff0_0000_0000_0000 ∷ 0x401c_0000_0000_0000 ∷ [])
   pub min-exchanged : Changed 1 (min-val 1 (float 1, float 5) (float 1, float 7)) (min-val 1 (float 1, float 7) (float 1, float 5)) (0x3ff0_0000_0000_0000 ∷ 0x4014_0000_0000_0000 ∷ []) (0x3ff0_0000_0000_0000 ∷ 0x401c_0000_0000_0000 ∷ [])
-
--- on a tape, whose negation is 0 - x: at -0 and +0
-pub record OnATape : Type 0 where
-  -- x - y and x + (-y)
-  pub minus-is-not-plus-negated : Changed 0 (difference 0 (neg nought) nought) (sum 0 (neg nought) (difference 0 nought nought)) (0x8000_0000_0000_0000 ∷ []) (0 ∷ [])
-  -- -(-x) and x
-  pub not-negated-twice : Changed 0 (difference 0 nought (difference 0 nought (neg nought))) (neg nought) (0 ∷ []) (0x8000_0000_0000_0000 ∷ [])
