@@ -142,8 +142,8 @@ number-tried = a-number (number Full) (number SerialsSpent)
 
 -- lookup: the serial of another index compared; a handle with serial 0 live where 0 is stored
 abbrev pub lookup-tried : List Tried
-lookup-tried = a-lookup (looked-up 2 (7 ∷ 9 ∷ []) (handle 1 7)) Live
-    ∷ a-lookup (looked-up 1 (0 ∷ []) (handle 0 0)) Live ∷ []
+lookup-tried = a-lookup (looked-up (state 2 0 true 10) (7 ∷ 9 ∷ []) (handle 1 7)) Live
+    ∷ a-lookup (looked-up (state 1 0 true 10) (0 ∷ []) (handle 0 0)) Live ∷ []
 
 -- new: an active tape; a first serial of 0
 abbrev pub new-tried : List Tried

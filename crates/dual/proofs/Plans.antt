@@ -5,22 +5,25 @@ use native.Mathlib.Omega.{arith}
 use mathlib.Core.Path.{_≡_, refl, sym, ap, subst, _∙_}
 use mathlib.Core.Bool.{Bool, true, false, _&&_, cond}
 use mathlib.Core.List.{List, [], _∷_, map}
+use mathlib.Core.Option.{Option, none, some}
 use lib.Dec.{leb}
 use lib.Ieee.{Float}
 use lib.ListN.{getD}
 use Rattle.tape.specs.Numbers.{floats}
 use Rattle.tape.specs.Machine.{Arrays, Machine, slot, fits, all}
-use Rattle.tape.specs.Handles.{plain, node, live, handles, any-plain}
+use Rattle.tape.specs.Handles.{plain, node, live, amiss, handles, any-plain}
 use Rattle.tape.specs.Walk.{sound}
-use Rattle.tape.specs.Answers.{refused}
-use Rattle.tape.specs.Calls.{Pass as Pass′, backward, backward-to-mark, backward-mark-to-start, propagate-to-mark, propagate-mark-to-start, pass, plan, range, any-stale, carried, step}
+use Rattle.tape.specs.Answers.{refused, admitted}
+use Rattle.tape.specs.Calls.{Pass as Pass′, backward, backward-to-mark, backward-mark-to-start, propagate-to-mark, propagate-mark-to-start, pass, plan, range, let-in, first-amiss, carried, step}
 use Rattle.tape.specs.declared.errors.Refusal.{Refusal}
-use Rattle.tape.specs.declared.errors.Refusal.the-variants.{NotLive, Detached, UnsoundEdge}
+use Rattle.tape.specs.declared.errors.Refusal.the-variants.{Detached, UnsoundEdge}
 use Rattle.tape.specs.declared.node.Handle.{Handle}
+use Rattle.tape.specs.declared.node.Usable.the-variants as usable
 use Rattle.tape.specs.declared.node.Operand.the-variants.{Number, Node}
-use Rattle.tape.proofs.Steps.{lives-told}
+use Rattle.tape.specs.declared.state.Caller.the-variants as caller
+use Rattle.tape.proofs.Steps.{lives-told, granted-shape}
 use Rattle.tape.proofs.Tests.{Fit, fit, by-test}
-use Rattle.dual.specs.Inner.{pass-of, found-root, span-of, inside, all-sound, sound-edges, carried-out, Within, Walkable, Ready}
+use Rattle.dual.specs.Inner.{pass-of, root-by, root-if, found-root, span-of, inside, all-sound, sound-edges, carried-out, Within, Walkable, Ready}
 use Rattle.dual.specs.declared.planning.Pass.{Pass}
 use Rattle.dual.specs.declared.planning.Pass.the-variants.{Backward, BackwardToMark, BackwardMarkToStart, PropagateToMark, PropagateMarkToStart}
 use Rattle.dual.specs.declared.planning.Planned.{Planned}
@@ -60,12 +63,27 @@ by-life false f g = g refl
 
 -- ---- the plan
 
-module _ (M : Machine floats) (shape : fits true M ≡ true) where
+module _ (M : Machine floats) where
   abbrev pub span : Pass → Span
   span which = span-of (plan (pass-of which) (M .state))
 
   abbrev pub roots : Pass → Root
-  roots which = found-root (M .state .length) (M .lent .serial) (plan (pass-of which) (M .state) .root)
+  roots which = found-root (M .state) (M .lent .serial) (plan (pass-of which) (M .state) .root)
+
+  -- carried out, the plan is the pass; and it can be carried out
+  abbrev pub Settles : Pass′ floats → Planned → Type 0
+  Settles p z = (carried-out z M ≡ step (pass p) M) × Ready z (M .lent .adjoint) (M .lent .count) (M .lent .child) (M .lent .partial)
+
+  abbrev pub tested : Span → Planned → Planned
+  tested s z = cond (all-sound (M .lent .count) (M .lent .child) s) z (Refused UnsoundEdge)
+
+  -- what the code comes to
+  abbrev pub planned : Pass → Root → Planned
+  planned which r = by-root (λ h. tested (span which) (Rooted h (span which))) (tested (span which) (Unrooted (span which))) r
+
+module _ (M : Machine floats) (granted : let-in caller.Passing M ≡ none) where
+  shape : fits true M ≡ true
+  shape = granted-shape caller.Passing M granted
 
   -- a range that ends at or below the length can be tested
   pub within : (s : Span) → s .end ≤ M .state .length → Within s (M .lent .count) (M .lent .child)
@@ -79,64 +97,53 @@ module _ (M : Machine floats) (shape : fits true M ≡ true) where
   marked = fit M shape .state .mark
 
   -- a range ends at or below the length, unless its root is amiss
-  range-end : (which : Pass) → ((r : Refusal) → roots which ≡ root.Refused r → ⊥) → span which .end ≤ M .state .length
+  range-end : (which : Pass) → ((r : Refusal) → roots M which ≡ root.Refused r → ⊥) → span M which .end ≤ M .state .length
   range-end (Backward (Number v)) sound = absurd (sound Detached refl)
-  range-end (Backward (Node h)) sound = by-life (live M h) (λ t. let l = lives-told _ (M .lent .serial) h t .below in omega arith) (λ f. absurd (sound NotLive (rw f)))
+  range-end (Backward (Node h)) sound = by-life (live M h) (λ t. let l = lives-told _ (M .lent .serial) h t .below in omega arith) (λ f. absurd (sound (amiss (M .state) h) (rw f)))
   range-end (BackwardToMark x) sound = le-refl _
   range-end (BackwardMarkToStart x) sound = marked
   range-end PropagateToMark sound = le-refl _
   range-end PropagateMarkToStart sound = marked
 
-  -- carried out, the plan is the pass; and it can be carried out
-  abbrev pub Settles : Pass′ floats → Planned → Type 0
-  Settles p z = (carried-out z M ≡ step (pass p) M) × Ready z (M .lent .adjoint) (M .lent .count) (M .lent .child) (M .lent .partial)
-
-  abbrev pub tested : Span → Planned → Planned
-  tested s z = cond (all-sound (M .lent .count) (M .lent .child) s) z (Refused UnsoundEdge)
-
   module _ (p : Pass′ floats) where
     -- nothing is amiss with the root: the range decides
-    step-tested : any-stale M (handles (plan p (M .state) .root)) ≡ false → any-plain (plan p (M .state) .root) ≡ false → (b : Bool) → all (map (sound (M .lent)) (range (plan p (M .state)))) ≡ b
+    step-tested : first-amiss M (handles (plan p (M .state) .root)) ≡ none → any-plain (plan p (M .state) .root) ≡ false → (b : Bool) → all (map (sound (M .lent)) (range (plan p (M .state)))) ≡ b
         → step (pass p) M ≡ cond b (carried (pass p) M) (refused UnsoundEdge, M)
     unfolding step
-    step-tested live there true e = rw (shape, live, there, e)
-    step-tested live there false e = rw (shape, live, there, e)
+    step-tested live there true e = rw (granted, live, there, e)
+    step-tested live there false e = rw (granted, live, there, e)
 
-    settles-tested : (z : Planned) → any-stale M (handles (plan p (M .state) .root)) ≡ false → any-plain (plan p (M .state) .root) ≡ false → carried-out z M ≡ carried (pass p) M
+    settles-tested : (z : Planned) → first-amiss M (handles (plan p (M .state) .root)) ≡ none → any-plain (plan p (M .state) .root) ≡ false → carried-out z M ≡ carried (pass p) M
         → (all-sound (M .lent .count) (M .lent .child) (span-of (plan p (M .state))) ≡ true → Ready z (M .lent .adjoint) (M .lent .count) (M .lent .child) (M .lent .partial))
-        → Settles p (tested (span-of (plan p (M .state))) z)
+        → Settles M p (tested M (span-of (plan p (M .state))) z)
     settles-tested z live there same ready =
         let s = span-of (plan p (M .state)) in
         by-test
-        (Settles p)
+        (Settles M p)
         (all-sound (M .lent .count) (M .lent .child) s)
         (λ t. (same ∙ sym (step-tested live there true (sym (sound-so (M .lent) s) ∙ t)), ready t))
         (λ f. (sym (step-tested live there false (sym (sound-so (M .lent) s) ∙ f)), tt))
 
-    refuses-plain : (v : Float) → plan p (M .state) .root ≡ plain v ∷ [] → Settles p (Refused Detached)
+    refuses-plain : (v : Float) → plan p (M .state) .root ≡ plain v ∷ [] → Settles M p (Refused Detached)
     unfolding step
-    refuses-plain v e = (rw (shape, e), tt)
+    refuses-plain v e = (rw (granted, e), tt)
 
-    refuses-stale : (h : Handle) → plan p (M .state) .root ≡ node h ∷ [] → live M h ≡ false → Settles p (Refused NotLive)
+    refuses-stale : (h : Handle) → plan p (M .state) .root ≡ node h ∷ [] → live M h ≡ false → Settles M p (Refused (amiss (M .state) h))
     unfolding step
-    refuses-stale h e dead = (rw (shape, e, dead), tt)
+    refuses-stale h e dead = (rw (granted, e, dead), tt)
 
     node-tested : (h : Handle) → plan p (M .state) .root ≡ node h ∷ [] → let s = span-of (plan p (M .state)) in carried-out (Rooted h s) M ≡ carried (pass p) M → (h .index < M .state .length → s .end ≤ M .state .length) → live M h ≡ true
-        → Settles p (tested s (Rooted h s))
+        → Settles M p (tested M s (Rooted h s))
     node-tested h e same end alive =
         let s = span-of (plan p (M .state)) in
         let below = lives-told (M .state .length) (M .lent .serial) h alive .below in
         let f : Fit M = fit M shape in
         settles-tested (Rooted h s) (rw (e, alive)) (rw e) same (λ t. (omega arith, walkable s (end below) t))
 
-    by-node : (at-node : Handle → Planned) (at-none : Planned) (h : Handle) → plan p (M .state) .root ≡ node h ∷ [] → (live M h ≡ true → Settles p (at-node h)) → Settles p (by-root at-node at-none (cond (live M h) (root.At h) (root.Refused NotLive)))
-    by-node at-node at-none h e if-live = by-test (λ r. Settles p (by-root at-node at-none r)) (live M h) if-live (refuses-stale h e)
+    by-node : (at-node : Handle → Planned) (at-none : Planned) (h : Handle) → plan p (M .state) .root ≡ node h ∷ [] → (live M h ≡ true → Settles M p (at-node h)) → Settles M p (by-root at-node at-none (root-by (cond (live M h) usable.Live (usable.Refused (amiss (M .state) h))) h))
+    by-node at-node at-none h e if-live = by-test (λ l. Settles M p (by-root at-node at-none (root-by l h))) (live M h) if-live (refuses-stale h e)
 
-  -- what the code comes to
-  abbrev pub planned : Pass → Root → Planned
-  planned which r = by-root (λ h. tested (span which) (Rooted h (span which))) (tested (span which) (Unrooted (span which))) r
-
-  pub planned-so : (which : Pass) → Settles (pass-of which) (planned which (roots which))
+  pub planned-so : (which : Pass) → Settles M (pass-of which) (planned M which (roots M which))
   planned-so (Backward (Number v)) = refuses-plain (backward (plain v)) v refl
   planned-so (BackwardToMark (Number v)) = refuses-plain (backward-to-mark (plain v)) v refl
   planned-so (BackwardMarkToStart (Number v)) = refuses-plain (backward-mark-to-start (plain v)) v refl
@@ -148,25 +155,38 @@ module _ (M : Machine floats) (shape : fits true M ≡ true) where
 
 -- ---- place by place, as the code goes: r is the root that it found, s the range
 
-module _ (M : Machine floats) (shape : fits true M ≡ true) (which : Pass) (r : Root) (found : r ≡ roots M shape which) where
-  settled : Settles M shape (pass-of which) (planned M shape which r)
-  settled = subst (λ r. Settles M shape (pass-of which) (planned M shape which r)) (sym found) (planned-so M shape which)
+module _ (M : Machine floats) (which : Pass) (r : Root) (found : r ≡ root-if (admitted (let-in caller.Passing M)) (roots M which)) where
+  turned : (k : Refusal) → let-in caller.Passing M ≡ some k → Settles M (pass-of which) (Refused k)
+  unfolding step
+  turned k e = (rw e, tt)
 
-  pub refuses : (k : Refusal) → r ≡ root.Refused k → Settles M shape (pass-of which) (Refused k)
-  refuses k e = subst (λ r. Settles M shape (pass-of which) (planned M shape which r)) e settled
+  settled : Settles M (pass-of which) (planned M which r)
+  settled = by-cases (let-in caller.Passing M) refl where
+    by-cases : (o : Option Refusal) → let-in caller.Passing M ≡ o → Settles M (pass-of which) (planned M which r)
+    by-cases none e = subst (λ r. Settles M (pass-of which) (planned M which r)) (sym (found ∙ ap (λ o. root-if (admitted o) (roots M which)) e)) (planned-so M e which)
+    by-cases (some k) e = subst (λ r. Settles M (pass-of which) (planned M which r)) (sym (found ∙ ap (λ o. root-if (admitted o) (roots M which)) e)) (turned k e)
 
-  -- the root is not refused
+  pub refuses : (k : Refusal) → r ≡ root.Refused k → Settles M (pass-of which) (Refused k)
+  refuses k e = subst (λ r. Settles M (pass-of which) (planned M which r)) e settled
+
+  -- the root is not refused: then the pass was let in
   module _ (sound : (k : Refusal) → r ≡ root.Refused k → ⊥) where
-    ends : span M shape which .end ≤ M .state .length
-    ends = range-end M shape which (λ k e. sound k (found ∙ e))
+    inside-so : let-in caller.Passing M ≡ none
+    inside-so = by-cases (let-in caller.Passing M) refl where
+      by-cases : (o : Option Refusal) → let-in caller.Passing M ≡ o → let-in caller.Passing M ≡ none
+      by-cases none e = e
+      by-cases (some k) e = absurd (sound k (found ∙ ap (λ o. root-if (admitted o) (roots M which)) e))
 
-    pub end-small : span M shape which .end ≤ 65535
-    end-small = let f : Fit M = fit M shape in omega (arith, ends)
+    ends : span M which .end ≤ M .state .length
+    ends = range-end M inside-so which (λ k e. sound k (found ∙ ap (λ o. root-if (admitted o) (roots M which)) inside-so ∙ e))
 
-    pub range-within : (s : Span) → s ≡ span M shape which → Within s (M .lent .count) (M .lent .child)
-    range-within s same = subst (λ s. Within s (M .lent .count) (M .lent .child)) (sym same) (within M shape _ ends)
+    pub end-small : span M which .end ≤ 65535
+    end-small = let f : Fit M = fit M (granted-shape caller.Passing M inside-so) in omega (arith, ends)
 
-  pub settled-by : (q : Root) → r ≡ q → (s : Span) → s ≡ span M shape which → (z : Planned) → z ≡ by-root (λ h. tested M shape s (Rooted h s)) (tested M shape s (Unrooted s)) q → Settles M shape (pass-of which) z
+    pub range-within : (s : Span) → s ≡ span M which → Within s (M .lent .count) (M .lent .child)
+    range-within s same = subst (λ s. Within s (M .lent .count) (M .lent .child)) (sym same) (within M inside-so _ ends)
+
+  pub settled-by : (q : Root) → r ≡ q → (s : Span) → s ≡ span M which → (z : Planned) → z ≡ by-root (λ h. tested M s (Rooted h s)) (tested M s (Unrooted s)) q → Settles M (pass-of which) z
   settled-by q e s same z made =
-      let here = subst (λ r. Settles M shape (pass-of which) (planned M shape which r)) e settled in
-      subst (Settles M shape (pass-of which)) (ap (λ s. by-root (λ h. tested M shape s (Rooted h s)) (tested M shape s (Unrooted s)) q) (sym same) ∙ sym made) here
+      let here = subst (λ r. Settles M (pass-of which) (planned M which r)) e settled in
+      subst (Settles M (pass-of which)) (ap (λ s. by-root (λ h. tested M s (Rooted h s)) (tested M s (Unrooted s)) q) (sym same) ∙ sym made) here

@@ -7,14 +7,20 @@ use lib.Ieee.{Float, nan}
 use lib.ListN.{length, getD}
 use Rattle.tape.specs.Numbers.{floats}
 use Rattle.tape.specs.Machine.{Arrays, Machine, arrays, most-nodes, most-edges, slot, all}
-use Rattle.tape.specs.Handles.{Operand, plain, node, operand, lives}
+use Rattle.tape.specs.Handles.{Operand, plain, node, operand, looked-up, usable-as}
 use Rattle.tape.specs.Walk.{walk, edges-at, indexes, visited, sound}
 use Rattle.tape.specs.Answers.{Answer, refused, counted}
 use Rattle.tape.specs.Calls.{Pass, backward, backward-to-mark, backward-mark-to-start, propagate-to-mark, propagate-mark-to-start, Plan, range, walked}
-use Rattle.tape.specs.declared.errors.Refusal.the-variants.{NotLive, Detached}
+use Rattle.tape.specs.declared.errors.Refusal.the-variants.{Detached}
 use Rattle.tape.specs.declared.node.Handle.{Handle}
 use Rattle.tape.specs.declared.node.Lookup.{Lookup}
 use Rattle.tape.specs.declared.node.Lookup.the-variants as lookup
+use Rattle.tape.specs.declared.node.Usable.{Usable}
+use Rattle.tape.specs.declared.node.Usable.the-variants as usable
+use Rattle.tape.specs.declared.node.Operand as code
+use Rattle.tape.specs.declared.state.Admission.{Admission}
+use Rattle.tape.specs.declared.state.Admission.the-variants as admission
+use Rattle.tape.specs.declared.state.Tape.{Tape}
 use Rattle.dual.specs.declared.reading.Read as read
 use Rattle.dual.specs.declared.reading.Liveness as liveness
 use Rattle.dual.specs.declared.planning.Pass as passes
@@ -24,14 +30,35 @@ use Rattle.dual.specs.declared.planning.Root as root
 
 -- ---- reads
 
-abbrev pub behind-node : ℕ → List ℕ → List Float → Handle → read.Read
-behind-node n serials held h = cond (lives n serials h) (read.the-variants.Number (getD held (h .index) nan)) (read.the-variants.Refused NotLive)
+abbrev pub read-by : Usable → Float → read.Read
+read-by usable.Live x = read.the-variants.Number x
+read-by (usable.Refused r) x = read.the-variants.Refused r
+
+abbrev pub behind-node : Tape → List ℕ → List Float → Handle → read.Read
+behind-node t serials held h = read-by (usable-as t serials h) (getD held (h .index) nan)
 
 abbrev pub told-of : Lookup → liveness.Liveness
 told-of lookup.Live = liveness.the-variants.Live
 told-of lookup.NotLive = liveness.the-variants.NotLive
 
+abbrev pub value-behind : Tape → List ℕ → List Float → code.Operand → read.Read
+value-behind t serials held (code.the-variants.Number v) = read.the-variants.Number v
+value-behind t serials held (code.the-variants.Node h) = behind-node t serials held h
+
+abbrev pub adjoint-behind : Tape → List ℕ → List Float → code.Operand → read.Read
+adjoint-behind t serials held (code.the-variants.Number v) = read.the-variants.Refused Detached
+adjoint-behind t serials held (code.the-variants.Node h) = behind-node t serials held h
+
+abbrev pub liveness-of : Tape → List ℕ → code.Operand → liveness.Liveness
+liveness-of t serials (code.the-variants.Number v) = liveness.the-variants.NotLive
+liveness-of t serials (code.the-variants.Node h) = told-of (looked-up t serials h)
+
 -- ---- plans
+
+-- the root of a pass that is let in
+abbrev pub root-if : Admission → root.Root → root.Root
+root-if admission.Granted r = r
+root-if (admission.Refused k) r = root.the-variants.Refused k
 
 -- the code's pass
 abbrev pub pass-of : passes.Pass → Pass floats
@@ -41,10 +68,14 @@ pass-of (passes.the-variants.BackwardMarkToStart x) = backward-mark-to-start (op
 pass-of passes.the-variants.PropagateToMark = propagate-to-mark
 pass-of passes.the-variants.PropagateMarkToStart = propagate-mark-to-start
 
-abbrev pub found-root : ℕ → List ℕ → List (Operand floats) → root.Root
-found-root n serials [] = root.the-variants.None
-found-root n serials (plain x ∷ os) = root.the-variants.Refused Detached
-found-root n serials (node h ∷ os) = cond (lives n serials h) (root.the-variants.At h) (root.the-variants.Refused NotLive)
+abbrev pub root-by : Usable → Handle → root.Root
+root-by usable.Live h = root.the-variants.At h
+root-by (usable.Refused r) h = root.the-variants.Refused r
+
+abbrev pub found-root : Tape → List ℕ → List (Operand floats) → root.Root
+found-root t serials [] = root.the-variants.None
+found-root t serials (plain x ∷ os) = root.the-variants.Refused Detached
+found-root t serials (node h ∷ os) = root-by (usable-as t serials h) h
 
 abbrev pub span-of : Plan floats → Span
 span-of P = record { from = P .from; end = P .end }

@@ -9,7 +9,7 @@ ghost use Prim.Native.Nat.{ℕ};
 ghost use mathlib.Core.List.{List};
 ghost use lib.Ieee.{Float};
 ghost use Rattle.tape.specs.Numbers.{floats};
-ghost use Rattle.tape.specs.Machine.{arrays, machine};
+ghost use Rattle.tape.specs.Machine.{arrays, machine, lent-after, lent-before};
 ghost use Rattle.tape.specs.Handles.{operand};
 ghost use Rattle.tape.specs.Calls.{step, pass, backward, backward-to-mark, backward-mark-to-start, propagate-to-mark, propagate-mark-to-start};
 ghost use Rattle.dual.specs.Outcome.{passed-back};
@@ -33,8 +33,8 @@ pub fn backward(
     root: Operand,
 ) -> Passed
     ensures { λ x. ⌜
-        passed-back x (machine tape (arrays {N = floats} (now (value .entry)) (now (adjoint .exit)) (now (serial .entry)) (now (count .entry)) (now (child .entry)) (now (partial .entry))))
-        ≡ step (pass (backward (operand root))) (machine tape (arrays (now (value .entry)) (now (adjoint .entry)) (now (serial .entry)) (now (count .entry)) (now (child .entry)) (now (partial .entry)))) ⌝ }
+        passed-back x (machine tape (lent-after value adjoint serial count child partial))
+        ≡ step (pass (backward (operand root))) (machine tape (lent-before value adjoint serial count child partial)) ⌝ }
 {
     run(
         Pass::Backward(root),
@@ -60,8 +60,8 @@ pub fn backward_to_mark(
     root: Operand,
 ) -> Passed
     ensures { λ x. ⌜
-        passed-back x (machine tape (arrays {N = floats} (now (value .entry)) (now (adjoint .exit)) (now (serial .entry)) (now (count .entry)) (now (child .entry)) (now (partial .entry))))
-        ≡ step (pass (backward-to-mark (operand root))) (machine tape (arrays (now (value .entry)) (now (adjoint .entry)) (now (serial .entry)) (now (count .entry)) (now (child .entry)) (now (partial .entry)))) ⌝ }
+        passed-back x (machine tape (lent-after value adjoint serial count child partial))
+        ≡ step (pass (backward-to-mark (operand root))) (machine tape (lent-before value adjoint serial count child partial)) ⌝ }
 {
     run(
         Pass::BackwardToMark(root),
@@ -87,8 +87,8 @@ pub fn backward_mark_to_start(
     root: Operand,
 ) -> Passed
     ensures { λ x. ⌜
-        passed-back x (machine tape (arrays {N = floats} (now (value .entry)) (now (adjoint .exit)) (now (serial .entry)) (now (count .entry)) (now (child .entry)) (now (partial .entry))))
-        ≡ step (pass (backward-mark-to-start (operand root))) (machine tape (arrays (now (value .entry)) (now (adjoint .entry)) (now (serial .entry)) (now (count .entry)) (now (child .entry)) (now (partial .entry)))) ⌝ }
+        passed-back x (machine tape (lent-after value adjoint serial count child partial))
+        ≡ step (pass (backward-mark-to-start (operand root))) (machine tape (lent-before value adjoint serial count child partial)) ⌝ }
 {
     run(
         Pass::BackwardMarkToStart(root),
@@ -113,8 +113,8 @@ pub fn propagate_to_mark(
     partial: &[f64],
 ) -> Passed
     ensures { λ x. ⌜
-        passed-back x (machine tape (arrays {N = floats} (now (value .entry)) (now (adjoint .exit)) (now (serial .entry)) (now (count .entry)) (now (child .entry)) (now (partial .entry))))
-        ≡ step (pass propagate-to-mark) (machine tape (arrays (now (value .entry)) (now (adjoint .entry)) (now (serial .entry)) (now (count .entry)) (now (child .entry)) (now (partial .entry)))) ⌝ }
+        passed-back x (machine tape (lent-after value adjoint serial count child partial))
+        ≡ step (pass propagate-to-mark) (machine tape (lent-before value adjoint serial count child partial)) ⌝ }
 {
     run(
         Pass::PropagateToMark,
@@ -139,8 +139,8 @@ pub fn propagate_mark_to_start(
     partial: &[f64],
 ) -> Passed
     ensures { λ x. ⌜
-        passed-back x (machine tape (arrays {N = floats} (now (value .entry)) (now (adjoint .exit)) (now (serial .entry)) (now (count .entry)) (now (child .entry)) (now (partial .entry))))
-        ≡ step (pass propagate-mark-to-start) (machine tape (arrays (now (value .entry)) (now (adjoint .entry)) (now (serial .entry)) (now (count .entry)) (now (child .entry)) (now (partial .entry)))) ⌝ }
+        passed-back x (machine tape (lent-after value adjoint serial count child partial))
+        ≡ step (pass propagate-mark-to-start) (machine tape (lent-before value adjoint serial count child partial)) ⌝ }
 {
     run(
         Pass::PropagateMarkToStart,
@@ -165,8 +165,8 @@ fn run(
     partial: &[f64],
 ) -> Passed
     ensures { λ x. ⌜
-        passed-back x (machine tape (arrays {N = floats} (now (value .entry)) (now (adjoint .exit)) (now (serial .entry)) (now (count .entry)) (now (child .entry)) (now (partial .entry))))
-        ≡ step (pass (pass-of which)) (machine tape (arrays (now (value .entry)) (now (adjoint .entry)) (now (serial .entry)) (now (count .entry)) (now (child .entry)) (now (partial .entry)))) ⌝ }
+        passed-back x (machine tape (lent-after value adjoint serial count child partial))
+        ≡ step (pass (pass-of which)) (machine tape (lent-before value adjoint serial count child partial)) ⌝ }
 {
     let planned = crate::planning::plan(which, tape, value, adjoint, serial, count, child, partial);
     carry_out(planned, adjoint, count, child, partial)

@@ -1,19 +1,24 @@
 // Planning a pass: every refusal is settled here, with the root and the range, before anything is written.
+use tape::Admission;
+use tape::Caller;
 use tape::Handle;
-use tape::Lookup;
+use tape::Lengths;
 use tape::MOST_EDGES;
 use tape::Operand;
 use tape::Refusal;
 use tape::Tape;
+use tape::Usable;
 ghost use Prim.Native.Nat.{_≤_};
 ghost use mathlib.Core.Path.{_≡_};
 ghost use mathlib.Core.Bool.{cond};
 ghost use mathlib.Core.List.{[], _∷_};
 ghost use Rattle.tape.specs.Numbers.{floats};
-ghost use Rattle.tape.specs.Machine.{arrays, machine, most-nodes};
+ghost use Rattle.tape.specs.Machine.{machine, most-nodes, lent-before};
 ghost use Rattle.tape.specs.Handles.{node, operand};
-ghost use Rattle.tape.specs.Calls.{step, pass, plan as Calls·plan, past};
-ghost use Rattle.dual.specs.Inner.{EdgeRoom, Within, Ready, pass-of, found-root, span-of, carried-out, all-sound, sound-edges};
+ghost use Rattle.tape.specs.Calls.{step, pass, plan as Calls·plan, past, admission};
+ghost use Rattle.tape.specs.Answers.{admitted};
+ghost use Rattle.tape.specs.declared.state.Caller.the-variants as caller;
+ghost use Rattle.dual.specs.Inner.{EdgeRoom, Within, Ready, pass-of, root-if, found-root, span-of, carried-out, all-sound, sound-edges};
 
 // The five passes, under the names of their calls, with the root of those that have one.
 pub(crate) enum Pass {
@@ -56,14 +61,16 @@ pub(crate) fn plan(
     partial: &[f64],
 ) -> Planned
     ensures { λ x. ⌜
-        carried-out x (machine tape (arrays {N = floats} (now (value .entry)) (now (adjoint .entry)) (now (serial .entry)) (now (count .entry)) (now (child .entry)) (now (partial .entry))))
-        ≡ step (pass (pass-of which)) (machine tape (arrays (now (value .entry)) (now (adjoint .entry)) (now (serial .entry)) (now (count .entry)) (now (child .entry)) (now (partial .entry)))) ⌝ }
+        carried-out x (machine tape (lent-before value adjoint serial count child partial))
+        ≡ step (pass (pass-of which)) (machine tape (lent-before value adjoint serial count child partial)) ⌝ }
     ensures { λ x. ⌜ Ready x (now (adjoint .entry)) (now (count .entry)) (now (child .entry)) (now (partial .entry)) ⌝ }
 {
-    if !tape.admits(value, adjoint, serial, count, child, partial) {
-        return Planned::Refused(Refusal::Misshapen);
-    }
-    match find_root(which, tape, serial) {
+    match let_in(
+        which,
+        tape,
+        Lengths::of(value, adjoint, serial, count, child, partial),
+        serial,
+    ) {
         Root::Refused(refusal) => Planned::Refused(refusal),
         Root::None => {
             let span = range_of(which, tape);
@@ -76,34 +83,44 @@ pub(crate) fn plan(
     }
 }
 
+// The root, if the pass is let in.
+fn let_in(which: Pass, tape: Tape, lent: Lengths, serial: &[u64]) -> Root
+    ensures { λ x. ⌜ x ≡ root-if (admitted (admission caller.Passing lent tape)) (found-root tape (now (serial .entry)) (Calls·plan (pass-of which) tape .root)) ⌝ }
+{
+    match tape.admit(Caller::Passing, lent) {
+        Admission::Refused(refusal) => Root::Refused(refusal),
+        Admission::Granted => find_root(which, tape, serial),
+    }
+}
+
 // The root, if the pass has one: a number is refused, and so is a handle that is not live.
 fn find_root(which: Pass, tape: Tape, serial: &[u64]) -> Root
-    ensures { λ x. ⌜ x ≡ found-root (tape .length) (now (serial .entry)) (Calls·plan (pass-of which) tape .root) ⌝ }
+    ensures { λ x. ⌜ x ≡ found-root tape (now (serial .entry)) (Calls·plan (pass-of which) tape .root) ⌝ }
 {
     match which {
-        Pass::Backward(root) => find_operand(root, tape.length, serial),
-        Pass::BackwardToMark(root) => find_operand(root, tape.length, serial),
-        Pass::BackwardMarkToStart(root) => find_operand(root, tape.length, serial),
+        Pass::Backward(root) => find_operand(root, tape, serial),
+        Pass::BackwardToMark(root) => find_operand(root, tape, serial),
+        Pass::BackwardMarkToStart(root) => find_operand(root, tape, serial),
         Pass::PropagateToMark => Root::None,
         Pass::PropagateMarkToStart => Root::None,
     }
 }
 
-fn find_operand(root: Operand, nodes: usize, serial: &[u64]) -> Root
-    ensures { λ x. ⌜ x ≡ found-root nodes (now (serial .entry)) (operand root ∷ []) ⌝ }
+fn find_operand(root: Operand, tape: Tape, serial: &[u64]) -> Root
+    ensures { λ x. ⌜ x ≡ found-root tape (now (serial .entry)) (operand root ∷ []) ⌝ }
 {
     match root {
         Operand::Number(_) => Root::Refused(Refusal::Detached),
-        Operand::Node(handle) => find_node(handle, nodes, serial),
+        Operand::Node(handle) => find_node(handle, tape, serial),
     }
 }
 
-fn find_node(handle: Handle, nodes: usize, serial: &[u64]) -> Root
-    ensures { λ x. ⌜ x ≡ found-root nodes (now (serial .entry)) (node handle ∷ []) ⌝ }
+fn find_node(handle: Handle, tape: Tape, serial: &[u64]) -> Root
+    ensures { λ x. ⌜ x ≡ found-root tape (now (serial .entry)) (node handle ∷ []) ⌝ }
 {
-    match handle.lookup(nodes, serial) {
-        Lookup::NotLive => Root::Refused(Refusal::NotLive),
-        Lookup::Live => Root::At(handle),
+    match handle.usable(tape, serial) {
+        Usable::Refused(refusal) => Root::Refused(refusal),
+        Usable::Live => Root::At(handle),
     }
 }
 

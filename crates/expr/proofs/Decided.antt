@@ -1,90 +1,80 @@
 -- The rule of a recording, as the code goes about it: what `decide` answers, carried on, is the machine's step.
-use Prim.Native.Nat.{ℕ, zero, suc}
-use mathlib.Core.Path.{_≡_, refl, sym, ap, _∙_}
-use mathlib.Core.Bool.{Bool, true, false, not, _&&_, _||_, cond, or-false}
+use Prim.Native.Nat.{ℕ, zero, suc, _+_, _<_}
+use native.Mathlib.Nat.{zero-add, add-zero}
+use native.Mathlib.Omega.{arith}
+use mathlib.Core.Path.{_≡_, refl, sym, ap, subst, _∙_}
+use mathlib.Core.Bool.{Bool, true, false, not, _&&_, cond}
 use mathlib.Core.List.{List, [], _∷_, _++_, append-nil}
 use mathlib.Core.Option.{Option, none, some}
-use native.Mathlib.Omega.{arith}
+use borrow.Author.Tests.{ltb-true}
 use lib.Dec.{eqb}
-use lib.Ieee.{Float, nan, binary64, ofBits}
-use lib.ListN.{getD}
+use lib.Ieee.{Float, nan}
+use lib.ListN.{length, getD}
 use Rattle.tape.specs.Numbers.{floats}
-use Rattle.tape.specs.Machine.{Machine, capacity, fits}
-use Rattle.tape.specs.Handles.{live, worth, handles, operand}
+use Rattle.tape.specs.Machine.{Machine, capacity, lengths, fits}
+use Rattle.tape.specs.Handles.{live, amiss, worth, handles, operand}
 use Rattle.tape.specs.Operations.{Row, row, rows, as-stored, apply, known, one-sided, used}
-use Rattle.tape.specs.Answers.{Answer, refused, detached}
+use Rattle.tape.specs.Answers.{Answer, refused, detached, admitted}
 use Rattle.tape.specs.Walk.{Edge}
-use Rattle.tape.specs.Calls.{edge, edges, operate, any-stale, last-serial, step}
+use Rattle.tape.specs.Calls.{edge, edges, operate, let-in, first-amiss, when, first, unless, last-serial, step}
 use Rattle.tape.specs.declared.errors.Refusal.{Refusal}
-use Rattle.tape.specs.declared.errors.Refusal.the-variants.{Misshapen, UnknownOperation, NotLive, Full, SerialsSpent}
+use Rattle.tape.specs.declared.errors.Refusal.the-variants.{UnknownOperation, Full, SerialsSpent}
 use Rattle.tape.specs.declared.node.Operand.{Operand}
 use Rattle.tape.specs.declared.node.Operand.the-variants.{Number, Node}
-use Rattle.tape.proofs.Steps.{by-one-sided}
-use Rattle.tape.proofs.Tests.{Fit, fit}
+use Rattle.tape.specs.declared.node.Usable.{Usable}
+use Rattle.tape.specs.declared.node.Usable.the-variants as usable
+use Rattle.tape.specs.declared.state.Admission.the-variants as admission
+use Rattle.tape.specs.declared.state.Caller.the-variants as caller
+use Rattle.tape.proofs.Steps.{granted-shape, is-granted, is-refused}
 use Rattle.expr.specs.Outcome.{given}
-use Rattle.expr.specs.Inner.{Reads, decided, found-operand, unlinked, made-from, made-of, row-by, row-of, edge-of, edges-of, edges-told, kept, settled}
+use Rattle.expr.specs.Inner.{Decides, decided-refusal, usable-operand, both-usable, refusal-in, worth-in, row-for, row-of, row-by, row-refusal, row-value, row-edges, edges-told, kept, settled}
+use Rattle.expr.specs.declared.operations.Row as code
 use Rattle.expr.specs.declared.operations.Supplied.{Supplied}
-use Rattle.expr.specs.declared.recording.Source.{Source}
-use Rattle.expr.specs.declared.recording.Found as found
-use Rattle.expr.specs.declared.recording.Edges.{Edges}
 use Rattle.expr.specs.declared.recording.Decision.{Decision}
-use Rattle.expr.specs.declared.recording.Decision.the-variants.{Refused, Made}
 
 abbrev Outcome : Type 0
 Outcome = Answer floats × Machine floats
 
--- ---- a decision, carried on
+-- ---- the rows of the table: an operation that uses the left operand alone has no right partial, and one that uses both has both
 
-abbrev continued : Decision → Machine floats → Outcome
-continued (Refused r) M = (refused r, M)
-continued (Made v es) M = settled M v (edges-told es)
+abbrev Side : Bool → Option Float → Option Float → Type 0
+Side true p none = Unit {0}
+Side true p (some q) = ⊥
+Side false (some p) (some q) = Unit {0}
+Side false none q = ⊥
+Side false (some p) none = ⊥
 
--- ---- the rows of the table: a right partial only beside a left one
+abbrev Sided : ℕ → List (Row floats) → Type 0
+Sided k [] = Unit {0}
+Sided k (s ∷ ss) = Side (one-sided k) (s .left) (s .right) × Sided (suc k) ss
 
-abbrev LeftFirst : Option Float → Option Float → Type 0
-LeftFirst none (some q) = ⊥
-LeftFirst none none = Unit {0}
-LeftFirst (some p) q = Unit {0}
+sided : (k : ℕ) (ss : List (Row floats)) (op : ℕ) → op < length ss → Sided k ss → let s = getD ss op (row nan none none) in Side (one-sided (k + op)) (s .left) (s .right)
+sided k [] op h f = absurd (omega arith)
+sided k (s ∷ ss) zero h f = rw (add-zero k) (f .0)
+sided k (s ∷ ss) (suc op) h f =
+    let e : suc k + op ≡ k + suc op = omega arith in
+    let s′ = getD ss op (row nan none none) in
+    subst (λ n. Side (one-sided n) (s′ .left) (s′ .right)) e (sided (suc k) ss op (omega arith) (f .1))
 
-abbrev Firsts : List (Row floats) → Type 0
-Firsts [] = Unit {0}
-Firsts (s ∷ ss) = LeftFirst (s .left) (s .right) × Firsts ss
+stored : (b : Bool) (p q : Option Float) → Side b p q → Side b (as-stored floats p) (as-stored floats q)
+stored true p none f = tt
+stored true p (some q) f = f
+stored false none q f = f
+stored false (some p) none f = f
+stored false (some p) (some q) f = tt
 
-firsts : (ss : List (Row floats)) (op : ℕ) → Firsts ss → let s = getD ss op (row nan none none) in LeftFirst (s .left) (s .right)
-firsts [] op f = tt
-firsts (s ∷ ss) zero f = f .0
-firsts (s ∷ ss) (suc op) f = firsts ss op (f .1)
-
-as-stored-so : (p q : Option Float) → LeftFirst p q → LeftFirst (as-stored floats p) (as-stored floats q)
-as-stored-so none none f = tt
-as-stored-so none (some q) f = f
-as-stored-so (some p) q f = tt
-
-left-first : (op : ℕ) (l r : Float) (g : Supplied) → let s = apply {N = floats} op l r (given g) in LeftFirst (s .left) (s .right)
-left-first op l r g =
+sides : (op : ℕ) (l r : Float) (g : Supplied) → known op ≡ true → let s = apply {N = floats} op l r (given g) in Side (one-sided op) (s .left) (s .right)
+sides op l r g k =
     let s = getD (rows {N = floats} l r (given g)) op (row nan none none) in
-    as-stored-so (s .left) (s .right) (firsts (rows {N = floats} l r (given g)) op (tt, (tt, (tt, (tt, (tt, (tt, (tt, (tt, (tt, (tt, tt)))))))))))
+    stored (one-sided op) (s .left) (s .right) (subst (λ n. Side (one-sided n) (s .left) (s .right)) (zero-add op) (sided 0 (rows {N = floats} l r (given g)) op (ltb-true op 10 k) (tt, (tt, (tt, (tt, (tt, (tt, (tt, (tt, (tt, (tt, tt))))))))))))
 
 -- ---- operands
 
 module _ (M : Machine floats) where
-  abbrev source : Operand → Source
-  source (Number x) = unlinked x
-  source (Node h) = record { value = getD (M .lent .value) (h .index) nan; linked = true; child = h .index }
+  abbrev usage : Operand → Usable
+  usage o = usable-operand (M .state) (M .lent .serial) o
 
-  abbrev stale : Operand → Bool
-  stale (Number x) = false
-  stale (Node h) = not (live M h)
-
-  swapped : (b : Bool) (s : Source) → cond b (found.the-variants.Source s) found.the-variants.NotLive ≡ cond (not b) found.the-variants.NotLive (found.the-variants.Source s)
-  swapped true s = refl
-  swapped false s = refl
-
-  found-so : (o : Operand) → found-operand (M .state .length) (M .lent .value) (M .lent .serial) o ≡ cond (stale o) found.the-variants.NotLive (found.the-variants.Source (source o))
-  found-so (Number x) = refl
-  found-so (Node h) = swapped (live M h) (source (Node h))
-
-  worth-so : (o : Operand) → source o .value ≡ worth M (operand o)
+  worth-so : (o : Operand) → worth-in (M .lent .value) o ≡ worth M (operand o)
   worth-so (Number x) = refl
   worth-so (Node h) = refl
 
@@ -92,109 +82,121 @@ module _ (M : Machine floats) where
   no-partial (Number x) = refl
   no-partial (Node h) = refl
 
-  one-edge : (o : Operand) (p : Float) → edges-told (edge-of (source o) p) ≡ edge (operand o) (some p)
-  one-edge (Number x) p = refl
-  one-edge (Node h) p = refl
+  by-life : (b : Bool) (r : Refusal) (o : Option Refusal) → cond b o (some r) ≡ first (refusal-in (cond b usable.Live (usable.Refused r)) ∷ o ∷ [])
+  by-life true r none = refl
+  by-life true r (some q) = refl
+  by-life false r o = refl
 
-  two-edges : (l r : Operand) (p q : Float) → edges-told (edges-of (source l) p (source r) q) ≡ edge (operand l) (some p) ++ edge (operand r) (some q)
-  two-edges (Number x) r p q = one-edge r q
-  two-edges (Node h) (Number y) p q = refl
-  two-edges (Node h) (Node k) p q = refl
-
-  made-so : (l r : Operand) (v : Float) (p q : Option Float) → LeftFirst p q → continued (made-of (row-by v p q) (source l) (source r)) M ≡ settled M v (edge (operand l) p ++ edge (operand r) q)
-  made-so l r v none none f = rw (no-partial l, no-partial r)
-  made-so l r v none (some q) f = absurd f
-  made-so l r v (some p) none f = rw (one-edge l p, no-partial r, append-nil)
-  made-so l r v (some p) (some q) f = rw (two-edges l r p q)
-
-  -- the first operand that is not live refuses
-  any-one : (o : Operand) → any-stale M (handles (operand o ∷ [])) ≡ stale o
+  any-one : (o : Operand) → first-amiss M (handles (operand o ∷ [])) ≡ refusal-in (usage o)
   any-one (Number x) = refl
-  any-one (Node h) = or-false (not (live M h))
+  any-one (Node h) = alone (live M h) (amiss (M .state) h) where
+    alone : (b : Bool) (r : Refusal) → cond b none (some r) ≡ refusal-in (cond b usable.Live (usable.Refused r))
+    alone true r = refl
+    alone false r = refl
 
-  any-two : (l r : Operand) → any-stale M (handles (operand l ∷ operand r ∷ [])) ≡ stale l || stale r
+  any-two : (l r : Operand) → first-amiss M (handles (operand l ∷ operand r ∷ [])) ≡ refusal-in (both-usable (usage l) (usage r))
   any-two (Number x) r = any-one r
-  any-two (Node h) r = ap (λ b. not (live M h) || b) (any-one r)
-
-  left-so : (op : ℕ) (g : Supplied) (b : Bool) (a d : Source) (x : Outcome) → continued (made-from op (found.the-variants.Source a) (found.the-variants.Source d) g) M ≡ x
-      → continued (made-from op (cond b found.the-variants.NotLive (found.the-variants.Source a)) (found.the-variants.Source d) g) M ≡ cond b (refused NotLive, M) x
-  left-so op g true a d x e = refl
-  left-so op g false a d x e = e
-
-  both-so : (op : ℕ) (g : Supplied) (b c : Bool) (a d : Source) (x : Outcome) → continued (made-from op (found.the-variants.Source a) (found.the-variants.Source d) g) M ≡ x
-      → continued (made-from op (cond b found.the-variants.NotLive (found.the-variants.Source a)) (cond c found.the-variants.NotLive (found.the-variants.Source d)) g) M ≡ cond (b || c) (refused NotLive, M) x
-  both-so op g true c a d x e = refl
-  both-so op g false true a d x e = refl
-  both-so op g false false a d x e = e
+  any-two (Node h) r = rw (any-one r) (both (live M h) (amiss (M .state) h)) where
+    both : (b : Bool) (q : Refusal) → cond b (refusal-in (usage r)) (some q) ≡ refusal-in (both-usable (cond b usable.Live (usable.Refused q)) (usage r))
+    both true q = refl
+    both false q = refl
 
   -- the node that live operands make
   abbrev made : ℕ → Operand → Operand → Supplied → Outcome
   made op l r g = let s = apply op (worth M (operand l)) (worth M (operand r)) (given g) in settled M (s .value) (edges (operand l) (operand r) s)
 
-  live-so : (op : ℕ) (l r : Operand) (g : Supplied) → known op ≡ true → continued (made-from op (found.the-variants.Source (source l)) (found.the-variants.Source (source r)) g) M ≡ made op l r g
-  live-so op l r g k =
-      let s = apply op (worth M (operand l)) (worth M (operand r)) (given g) in
-      let made-with : Float → Float → Outcome = λ x y. continued (made-of (row-of (known op) (apply op x y (given g))) (source l) (source r)) M in
-      ap (λ x. made-with x (source r .value)) (worth-so l)
-      ∙ ap (made-with (worth M (operand l))) (worth-so r)
-      ∙ ap (λ b. continued (made-of (row-of b s) (source l) (source r)) M) k
-      ∙ made-so l r (s .value) (s .left) (s .right) (left-first op (worth M (operand l)) (worth M (operand r)) g)
+  -- a row of the table that is known, by its partials
+  row-so : (b : Bool) (l r : Operand) (v : Float) (p q : Option Float) → Side b p q → let s = row-by v p q in
+      unless (row-refusal s (usage l) (usage r)) M (settled M (row-value s) (row-edges s l r))
+      ≡ unless (first-amiss M (handles (cond b (operand l ∷ []) (operand l ∷ operand r ∷ [])))) M (settled M v (edge (operand l) p ++ edge (operand r) q))
+  row-so true l r v none none f = rw (any-one l, no-partial l, no-partial r)
+  row-so true l r v (some p) none f = rw (any-one l, no-partial r, append-nil (edge (operand l) (some p)))
+  row-so true l r v p (some q) f = absurd f
+  row-so false l r v (some p) (some q) f = rw (any-two l r)
+  row-so false l r v none q f = absurd f
+  row-so false l r v (some p) none f = absurd f
 
-  -- an operation that uses the left operand alone makes the same of any right one
-  alone-so : (op : ℕ) (l r : Operand) (g : Supplied) (x : Float) → one-sided op ≡ true → made op l (Number x) g ≡ made op l r g
-  alone-so op l r g x = by-one-sided (λ op. made op l (Number x) g ≡ made op l r g) op (rw (no-partial r)) (rw (no-partial r)) (rw (no-partial r))
+  abbrev rule : ℕ → Operand → Operand → Supplied → Outcome
+  rule op l r g = unless (when (not (known op)) UnknownOperation) M (unless (first-amiss M (handles (used op (operand l) (operand r)))) M (made op l r g))
 
-  abbrev Decides : ℕ → Operand → Operand → Supplied → Type 0
-  Decides op l r g =
-      continued (decided (M .state .length) (M .lent .value) (M .lent .serial) op l r g) M
-      ≡ cond (not (known op)) (refused UnknownOperation, M) (cond (any-stale M (handles (used op (operand l) (operand r)))) (refused NotLive, M) (made op l r g))
+  abbrev by-values : ℕ → Operand → Operand → Supplied → Float → Float → Outcome
+  by-values op l r g x y = let s = row-of (known op) (apply op x y (given g)) in unless (row-refusal s (usage l) (usage r)) M (settled M (row-value s) (row-edges s l r))
 
-  decides : (op : ℕ) (l r : Operand) (g : Supplied) → Decides op l r g
-  decides op l r g = by-known (known op) refl where
-    by-sides : (o : Bool) → one-sided op ≡ o → known op ≡ true → Decides op l r g
-    by-sides true o k = rw (k, o, found-so l, any-one l) (left-so op g (stale l) (source l) (source (Number (ofBits binary64 0))) _ (live-so op l (Number (ofBits binary64 0)) g k ∙ alone-so op l r g (ofBits binary64 0) o))
-    by-sides false o k = rw (k, o, found-so l, found-so r, any-two l r) (both-so op g (stale l) (stale r) (source l) (source r) _ (live-so op l r g k))
-
-    by-known : (k : Bool) → known op ≡ k → Decides op l r g
-    by-known true k = by-sides (one-sided op) refl k
+  rule-so : (op : ℕ) (l r : Operand) (g : Supplied) → let s = row-for (M .lent .value) op l r g in unless (row-refusal s (usage l) (usage r)) M (settled M (row-value s) (row-edges s l r)) ≡ rule op l r g
+  rule-so op l r g = ap (λ x. by-values op l r g x (worth-in (M .lent .value) r)) (worth-so l) ∙ ap (by-values op l r g (worth M (operand l))) (worth-so r) ∙ by-known (known op) refl where
+    by-known : (k : Bool) → known op ≡ k → let s = row-of (known op) (apply op (worth M (operand l)) (worth M (operand r)) (given g)) in unless (row-refusal s (usage l) (usage r)) M (settled M (row-value s) (row-edges s l r)) ≡ rule op l r g
+    by-known true k = let s = apply op (worth M (operand l)) (worth M (operand r)) (given g) in rw k (row-so (one-sided op) l r (s .value) (s .left) (s .right) (sides op (worth M (operand l)) (worth M (operand r)) g k))
     by-known false k = rw k
 
 -- ---- room
 
 -- refusals 5 and 6, as the table has them and as the code goes about them
 room-so : (M : Machine floats) (v : Float) (es : List (Edge floats)) (a b d : Bool)
-    → _≡_ {A = Outcome}
-    (cond (a && b) (refused Full, M) (cond (a && d) (refused SerialsSpent, M) (cond a (kept M v es) (detached v, M))))
-    (cond a (cond b (refused Full, M) (cond d (refused SerialsSpent, M) (kept M v es))) (detached v, M))
-room-so M v es true b d = refl
+    → unless (first (when (a && b) Full ∷ when (a && d) SerialsSpent ∷ [])) M (cond a (kept M v es) (detached v, M))
+    ≡ cond a (cond b (refused Full, M) (cond d (refused SerialsSpent, M) (kept M v es))) (detached v, M)
+room-so M v es true true d = refl
+room-so M v es true false true = refl
+room-so M v es true false false = refl
 room-so M v es false b d = refl
 
-pub refused-so : (M : Machine floats) (op : ℕ) (l r : Operand) (g : Supplied) → fits true M ≡ false → (refused Misshapen, M) ≡ step (operate op (operand l) (operand r) (given g)) M
-unfolding step
-refused-so M op l r g e = rw e
+-- the four rows that a recording can meet behind its shape, over whatever the first two give
+rows-so : (M : Machine floats) (o q : Option Refusal) (v : Float) (es : List (Edge floats)) (a b d : Bool)
+    → unless (first (o ∷ q ∷ when (a && b) Full ∷ when (a && d) SerialsSpent ∷ [])) M (cond a (kept M v es) (detached v, M))
+    ≡ unless o M (unless q M (cond a (cond b (refused Full, M) (cond d (refused SerialsSpent, M) (kept M v es))) (detached v, M)))
+rows-so M none none v es a b d = room-so M v es a b d
+rows-so M none (some r) v es a b d = refl
+rows-so M (some r) q v es a b d = refl
 
-step-so : (M : Machine floats) (op : ℕ) (l r : Operand) (g : Supplied) → fits true M ≡ true
+step-so : (M : Machine floats) (op : ℕ) (l r : Operand) (g : Supplied) → let-in caller.Recording M ≡ none
     → step (operate op (operand l) (operand r) (given g)) M
-    ≡ cond (not (known op)) (refused UnknownOperation, M) (cond (any-stale M (handles (used op (operand l) (operand r)))) (refused NotLive, M) (made M op l r g))
+    ≡ unless (when (not (known op)) UnknownOperation) M (unless (first-amiss M (handles (used op (operand l) (operand r)))) M (made M op l r g))
 unfolding step
 step-so M op l r g e =
     let s = apply op (worth M (operand l)) (worth M (operand r)) (given g) in
-    rw
-    e
-    (ap (λ x. cond (not (known op)) (refused UnknownOperation, M) (cond (any-stale M (handles (used op (operand l) (operand r)))) (refused NotLive, M) x))
-    (room-so M (s .value) (edges (operand l) (operand r) s) (M .state .active) (eqb (M .state .length) (capacity (M .lent))) (eqb (M .state .next) last-serial)))
+    rw e
+    (rows-so M (when (not (known op)) UnknownOperation) (first-amiss M (handles (used op (operand l) (operand r)))) (s .value) (edges (operand l) (operand r) s) (M .state .active) (eqb (M .state .length) (capacity (M .lent))) (eqb (M .state .next) last-serial))
 
 -- what `decide` answers, carried on
-module _ (M : Machine floats) (op : ℕ) (l r : Operand) (g : Supplied) (x : Decision) (shape : fits true M ≡ true) (d : x ≡ decided (M .state .length) (M .lent .value) (M .lent .serial) op l r g) where
-  carried-on : continued x M ≡ step (operate op (operand l) (operand r) (given g)) M
-  carried-on = ap (λ y. continued y M) d ∙ decides M op l r g ∙ sym (step-so M op l r g shape)
+module _ (M : Machine floats) (op : ℕ) (l r : Operand) (g : Supplied) (x : Decision) (d : let s = row-for (M .lent .value) op l r g in Decides x (decided-refusal (M .state) (lengths (M .lent)) (M .lent .serial) s l r) s l r) where
+  abbrev found : code.Row
+  found = row-for (M .lent .value) op l r g
 
-  pub refused-by : (k : Refusal) → x ≡ Refused k → (refused k, M) ≡ step (operate op (operand l) (operand r) (given g)) M
-  refused-by k e = ap (λ y. continued y M) (sym e) ∙ carried-on
+  abbrev why : Option Refusal
+  why = decided-refusal (M .state) (lengths (M .lent)) (M .lent .serial) found l r
 
-  pub made-by : (v : Float) (es : Edges) → x ≡ Made v es → settled M v (edges-told es) ≡ step (operate op (operand l) (operand r) (given g)) M
-  made-by v es e = ap (λ y. continued y M) (sym e) ∙ carried-on
+  abbrev inner : Option Refusal
+  inner = row-refusal found (usage M l) (usage M r)
 
--- a machine that fits can be read below its length
-pub readable : (M : Machine floats) → fits true M ≡ true → Reads (M .state .length) (M .lent .value)
-readable M shape = let f : Fit M = fit M shape in record { held = f .state .length; small = omega arith }
+  last-row : (o : Option Refusal) (y : Outcome) → unless (first (o ∷ [])) M y ≡ unless o M y
+  last-row none y = refl
+  last-row (some k) y = refl
+
+  turned : (k : Refusal) → let-in caller.Recording M ≡ some k → (refused k, M) ≡ step (operate op (operand l) (operand r) (given g)) M
+  unfolding step
+  turned k e = rw e
+
+  steps : unless why M (settled M (row-value found) (row-edges found l r)) ≡ step (operate op (operand l) (operand r) (given g)) M
+  steps = by-door (let-in caller.Recording M) refl where
+    by-door : (o : Option Refusal) → let-in caller.Recording M ≡ o → unless why M (settled M (row-value found) (row-edges found l r)) ≡ step (operate op (operand l) (operand r) (given g)) M
+    by-door none e = ap (λ o. unless (first (o ∷ inner ∷ [])) M (settled M (row-value found) (row-edges found l r))) e ∙ last-row inner _ ∙ rule-so M op l r g ∙ sym (step-so M op l r g e)
+    by-door (some k) e = ap (λ o. unless (first (o ∷ inner ∷ [])) M (settled M (row-value found) (row-edges found l r))) e ∙ turned k e
+
+  pub refused-by : (k : Refusal) → x .admission ≡ admission.Refused k → (refused k, M) ≡ step (operate op (operand l) (operand r) (given g)) M
+  refused-by k e = ap (λ o. unless o M (settled M (row-value found) (row-edges found l r))) (sym (is-refused _ why k (d .admission) e)) ∙ steps
+
+  not-refused : x .admission ≡ admission.Granted → why ≡ none
+  not-refused e = is-granted _ why (d .admission) e
+
+  pub made-by : x .admission ≡ admission.Granted → settled M (x .value) (edges-told (x .edges)) ≡ step (operate op (operand l) (operand r) (given g)) M
+  made-by e =
+      let n = not-refused e in
+      ap (λ v. settled M v (edges-told (x .edges))) (d .value n)
+      ∙ ap (settled M (row-value found)) (d .edges n)
+      ∙ ap (λ o. unless o M (settled M (row-value found) (row-edges found l r))) (sym n)
+      ∙ steps
+
+  pub shape-by : x .admission ≡ admission.Granted → fits true M ≡ true
+  shape-by e = by-door (let-in caller.Recording M) refl where
+    by-door : (o : Option Refusal) → let-in caller.Recording M ≡ o → fits true M ≡ true
+    by-door none k = granted-shape caller.Recording M k
+    by-door (some q) k = let f : some q ≡ none = sym (ap (λ o. first (o ∷ inner ∷ [])) k) ∙ not-refused e in let z : _≡_ {A = ℕ} 0 1 = cc in absurd (omega arith)

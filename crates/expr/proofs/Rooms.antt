@@ -11,4 +11,4 @@ use Rattle.expr.specs.Inner.{Room}
 pub room : (t : Tape) (A : Arrays floats) → fits true (machine t A) ≡ true → (t .length ≡ capacity A → ⊥) → Room (t .length) A
 room t A shape free =
     let f : Fit (machine t A) = fit (machine t A) shape in
-    record { value = omega arith; adjoint = omega arith; serial = omega arith; edges = record { count = omega arith; child = omega arith; partial = omega arith } }
+    record { value = omega arith; adjoint = omega arith; serial = omega arith; count = omega arith; child = omega arith; partial = omega arith }

@@ -2,7 +2,7 @@
 ghost use mathlib.Core.Path.{_≡_};
 ghost use mathlib.Core.Bool.{cond};
 ghost use Rattle.tape.specs.Operations.{known, apply};
-ghost use Rattle.expr.specs.Inner.{told-row, uses-of};
+ghost use Rattle.expr.specs.Inner.{told-row};
 ghost use Rattle.expr.specs.Outcome.{given};
 
 // What the host supplies for operations 8 and 9.
@@ -44,32 +44,6 @@ pub(crate) fn apply(op: u8, l: f64, r: f64, supplied: Supplied) -> Row
         8 => Row::One(supplied.value, supplied.left),
         9 => Row::Two(supplied.value, supplied.left, supplied.right),
         10..=255 => Row::Unknown,
-    }
-}
-
-// Which operands an operation uses.
-pub(crate) enum Uses {
-    Unknown,
-    Left,
-    Both,
-}
-
-// Operations 0, 7 and 8 use the left operand alone.
-pub(crate) fn operands_of(op: u8) -> Uses
-    ensures { λ x. ⌜ x ≡ uses-of op ⌝ }
-{
-    match op {
-        0 => Uses::Left,
-        1 => Uses::Both,
-        2 => Uses::Both,
-        3 => Uses::Both,
-        4 => Uses::Both,
-        5 => Uses::Both,
-        6 => Uses::Both,
-        7 => Uses::Left,
-        8 => Uses::Left,
-        9 => Uses::Both,
-        10..=255 => Uses::Unknown,
     }
 }
 

@@ -4,8 +4,7 @@ use crate::recording::Recorded;
 use tape::Operand;
 use tape::Tape;
 ghost use mathlib.Core.Path.{_≡_};
-ghost use Rattle.tape.specs.Numbers.{floats};
-ghost use Rattle.tape.specs.Machine.{arrays, machine};
+ghost use Rattle.tape.specs.Machine.{lent-before, lent-after, machine};
 ghost use Rattle.tape.specs.Handles.{operand};
 ghost use Rattle.tape.specs.Calls.{step};
 ghost use Rattle.expr.specs.Outcome.{outcome};
@@ -29,8 +28,8 @@ pub fn new_leaf(
     x: f64,
 ) -> Recorded
     ensures { λ a. ⌜
-        outcome a (arrays {N = floats} (now (value .exit)) (now (adjoint .exit)) (now (serial .exit)) (now (count .exit)) (now (child .exit)) (now (partial .exit)))
-        ≡ step (new-leaf x) (machine tape (arrays (now (value .entry)) (now (adjoint .entry)) (now (serial .entry)) (now (count .entry)) (now (child .entry)) (now (partial .entry)))) ⌝ }
+        outcome a (lent-after value adjoint serial count child partial)
+        ≡ step (new-leaf x) (machine tape (lent-before value adjoint serial count child partial)) ⌝ }
 {
     crate::recording::record(
         tape,
@@ -59,8 +58,8 @@ pub fn put_on_tape(
     x: Operand,
 ) -> Recorded
     ensures { λ a. ⌜
-        outcome a (arrays {N = floats} (now (value .exit)) (now (adjoint .exit)) (now (serial .exit)) (now (count .exit)) (now (child .exit)) (now (partial .exit)))
-        ≡ step (put-on-tape (operand x)) (machine tape (arrays (now (value .entry)) (now (adjoint .entry)) (now (serial .entry)) (now (count .entry)) (now (child .entry)) (now (partial .entry)))) ⌝ }
+        outcome a (lent-after value adjoint serial count child partial)
+        ≡ step (put-on-tape (operand x)) (machine tape (lent-before value adjoint serial count child partial)) ⌝ }
 {
     crate::recording::record(
         tape,
@@ -90,8 +89,8 @@ pub fn add(
     right: Operand,
 ) -> Recorded
     ensures { λ a. ⌜
-        outcome a (arrays {N = floats} (now (value .exit)) (now (adjoint .exit)) (now (serial .exit)) (now (count .exit)) (now (child .exit)) (now (partial .exit)))
-        ≡ step (add (operand left) (operand right)) (machine tape (arrays (now (value .entry)) (now (adjoint .entry)) (now (serial .entry)) (now (count .entry)) (now (child .entry)) (now (partial .entry)))) ⌝ }
+        outcome a (lent-after value adjoint serial count child partial)
+        ≡ step (add (operand left) (operand right)) (machine tape (lent-before value adjoint serial count child partial)) ⌝ }
 {
     crate::recording::record(
         tape,
@@ -121,8 +120,8 @@ pub fn sub(
     right: Operand,
 ) -> Recorded
     ensures { λ a. ⌜
-        outcome a (arrays {N = floats} (now (value .exit)) (now (adjoint .exit)) (now (serial .exit)) (now (count .exit)) (now (child .exit)) (now (partial .exit)))
-        ≡ step (sub (operand left) (operand right)) (machine tape (arrays (now (value .entry)) (now (adjoint .entry)) (now (serial .entry)) (now (count .entry)) (now (child .entry)) (now (partial .entry)))) ⌝ }
+        outcome a (lent-after value adjoint serial count child partial)
+        ≡ step (sub (operand left) (operand right)) (machine tape (lent-before value adjoint serial count child partial)) ⌝ }
 {
     crate::recording::record(
         tape,
@@ -152,8 +151,8 @@ pub fn mul(
     right: Operand,
 ) -> Recorded
     ensures { λ a. ⌜
-        outcome a (arrays {N = floats} (now (value .exit)) (now (adjoint .exit)) (now (serial .exit)) (now (count .exit)) (now (child .exit)) (now (partial .exit)))
-        ≡ step (mul (operand left) (operand right)) (machine tape (arrays (now (value .entry)) (now (adjoint .entry)) (now (serial .entry)) (now (count .entry)) (now (child .entry)) (now (partial .entry)))) ⌝ }
+        outcome a (lent-after value adjoint serial count child partial)
+        ≡ step (mul (operand left) (operand right)) (machine tape (lent-before value adjoint serial count child partial)) ⌝ }
 {
     crate::recording::record(
         tape,
@@ -183,8 +182,8 @@ pub fn div(
     right: Operand,
 ) -> Recorded
     ensures { λ a. ⌜
-        outcome a (arrays {N = floats} (now (value .exit)) (now (adjoint .exit)) (now (serial .exit)) (now (count .exit)) (now (child .exit)) (now (partial .exit)))
-        ≡ step (div (operand left) (operand right)) (machine tape (arrays (now (value .entry)) (now (adjoint .entry)) (now (serial .entry)) (now (count .entry)) (now (child .entry)) (now (partial .entry)))) ⌝ }
+        outcome a (lent-after value adjoint serial count child partial)
+        ≡ step (div (operand left) (operand right)) (machine tape (lent-before value adjoint serial count child partial)) ⌝ }
 {
     crate::recording::record(
         tape,
@@ -214,8 +213,8 @@ pub fn max(
     right: Operand,
 ) -> Recorded
     ensures { λ a. ⌜
-        outcome a (arrays {N = floats} (now (value .exit)) (now (adjoint .exit)) (now (serial .exit)) (now (count .exit)) (now (child .exit)) (now (partial .exit)))
-        ≡ step (max (operand left) (operand right)) (machine tape (arrays (now (value .entry)) (now (adjoint .entry)) (now (serial .entry)) (now (count .entry)) (now (child .entry)) (now (partial .entry)))) ⌝ }
+        outcome a (lent-after value adjoint serial count child partial)
+        ≡ step (max (operand left) (operand right)) (machine tape (lent-before value adjoint serial count child partial)) ⌝ }
 {
     crate::recording::record(
         tape,
@@ -245,8 +244,8 @@ pub fn min(
     right: Operand,
 ) -> Recorded
     ensures { λ a. ⌜
-        outcome a (arrays {N = floats} (now (value .exit)) (now (adjoint .exit)) (now (serial .exit)) (now (count .exit)) (now (child .exit)) (now (partial .exit)))
-        ≡ step (min (operand left) (operand right)) (machine tape (arrays (now (value .entry)) (now (adjoint .entry)) (now (serial .entry)) (now (count .entry)) (now (child .entry)) (now (partial .entry)))) ⌝ }
+        outcome a (lent-after value adjoint serial count child partial)
+        ≡ step (min (operand left) (operand right)) (machine tape (lent-before value adjoint serial count child partial)) ⌝ }
 {
     crate::recording::record(
         tape,
@@ -275,8 +274,8 @@ pub fn neg(
     x: Operand,
 ) -> Recorded
     ensures { λ a. ⌜
-        outcome a (arrays {N = floats} (now (value .exit)) (now (adjoint .exit)) (now (serial .exit)) (now (count .exit)) (now (child .exit)) (now (partial .exit)))
-        ≡ step (neg (operand x)) (machine tape (arrays (now (value .entry)) (now (adjoint .entry)) (now (serial .entry)) (now (count .entry)) (now (child .entry)) (now (partial .entry)))) ⌝ }
+        outcome a (lent-after value adjoint serial count child partial)
+        ≡ step (neg (operand x)) (machine tape (lent-before value adjoint serial count child partial)) ⌝ }
 {
     crate::recording::record(
         tape,
@@ -307,8 +306,8 @@ pub fn supplied_one(
     p: f64,
 ) -> Recorded
     ensures { λ a. ⌜
-        outcome a (arrays {N = floats} (now (value .exit)) (now (adjoint .exit)) (now (serial .exit)) (now (count .exit)) (now (child .exit)) (now (partial .exit)))
-        ≡ step (supplied-one (operand x) v p) (machine tape (arrays (now (value .entry)) (now (adjoint .entry)) (now (serial .entry)) (now (count .entry)) (now (child .entry)) (now (partial .entry)))) ⌝ }
+        outcome a (lent-after value adjoint serial count child partial)
+        ≡ step (supplied-one (operand x) v p) (machine tape (lent-before value adjoint serial count child partial)) ⌝ }
 {
     let supplied = Supplied {
         value: v,
@@ -346,8 +345,8 @@ pub fn supplied_two(
     q: f64,
 ) -> Recorded
     ensures { λ a. ⌜
-        outcome a (arrays {N = floats} (now (value .exit)) (now (adjoint .exit)) (now (serial .exit)) (now (count .exit)) (now (child .exit)) (now (partial .exit)))
-        ≡ step (supplied-two (operand left) (operand right) v p q) (machine tape (arrays (now (value .entry)) (now (adjoint .entry)) (now (serial .entry)) (now (count .entry)) (now (child .entry)) (now (partial .entry)))) ⌝ }
+        outcome a (lent-after value adjoint serial count child partial)
+        ≡ step (supplied-two (operand left) (operand right) v p q) (machine tape (lent-before value adjoint serial count child partial)) ⌝ }
 {
     let supplied = Supplied {
         value: v,

@@ -1,5 +1,8 @@
 // Writes the listing into lent bytes. Whether it fits is settled before any byte is written.
 use crate::digits::HEX_DIGITS;
+use tape::Admission;
+use tape::Caller;
+use tape::Lengths;
 use tape::Refusal;
 use tape::Tape;
 ghost use Prim.Native.Nat.{_+_, _-_, _≤_, _<_};
@@ -8,7 +11,7 @@ ghost use mathlib.Core.List.{_++_};
 ghost use lib.Ieee.{binary64, toBits};
 ghost use lib.ListN.{length};
 ghost use Rattle.tape.specs.Numbers.{floats};
-ghost use Rattle.tape.specs.Machine.{Arrays, arrays, machine};
+ghost use Rattle.tape.specs.Machine.{Arrays, machine, lent-before};
 ghost use Rattle.tape.specs.Walk.{indexes};
 ghost use Rattle.tape.specs.Listing.{hex, decimal, header, line, lines, listing};
 ghost use Rattle.listing.specs.Outcome.{outcome, listed};
@@ -32,17 +35,22 @@ pub fn list(
     out: &mut [u8],
 ) -> Listed
     ensures { λ x. ⌜
-        (outcome x (machine tape (arrays {N = floats} (now (value .entry)) (now (adjoint .entry)) (now (serial .entry)) (now (count .entry)) (now (child .entry)) (now (partial .entry)))), now (out .exit))
-        ≡ listed (machine tape (arrays (now (value .entry)) (now (adjoint .entry)) (now (serial .entry)) (now (count .entry)) (now (child .entry)) (now (partial .entry)))) (now (out .entry)) ⌝ }
+        (outcome x (machine tape (lent-before value adjoint serial count child partial)), now (out .exit))
+        ≡ listed (machine tape (lent-before value adjoint serial count child partial)) (now (out .entry)) ⌝ }
 {
-    if !tape.admits(value, adjoint, serial, count, child, partial) {
-        return Listed::Refused(Refusal::Misshapen);
+    match tape.admit(
+        Caller::Listing,
+        Lengths::of(value, adjoint, serial, count, child, partial),
+    ) {
+        Admission::Refused(refusal) => Listed::Refused(refusal),
+        Admission::Granted => {
+            if out.len() < listing_length(tape) {
+                return Listed::Refused(Refusal::ListingTooLong);
+            }
+            let at = write_header(out, 0, tape);
+            Listed::Written(write_lines(out, at, tape.length, value, adjoint))
+        }
     }
-    if out.len() < listing_length(tape) {
-        return Listed::Refused(Refusal::ListingTooLong);
-    }
-    let at = write_header(out, 0, tape);
-    Listed::Written(write_lines(out, at, tape.length, value, adjoint))
 }
 
 // Beside its two numbers the header has three labels, the flag and a line feed.

@@ -5,18 +5,19 @@ use native.Mathlib.Omega.{arith}
 use mathlib.Core.Path.{_≡_, refl, ap}
 use mathlib.Core.Bool.{Bool, true, false, not, cond}
 use mathlib.Core.List.{List, [], _∷_, _++_, map, append-assoc}
+use mathlib.Core.Option.{none}
 use borrow.Author.Tests.{ne-eqb}
 use lib.ListN.{length, getD, length-map}
 use Rattle.tape.specs.Numbers.{Numbers}
 use Rattle.tape.specs.Machine.{Arrays, Machine, machine, capacity, fits}
 use Rattle.tape.specs.Handles.{Operand, live, handles, any-plain}
 use Rattle.tape.specs.Operations.{one-sided}
-use Rattle.tape.specs.Calls.{Call, Move, move, start, set-mark, rewind-to-mark, operate, clear, Pass, pass, backward-to-mark, propagate-mark-to-start, plan, any-stale, last-serial, step, run}
+use Rattle.tape.specs.Calls.{Call, Move, move, start, set-mark, rewind-to-mark, operate, clear, Pass, pass, backward-to-mark, propagate-mark-to-start, plan, first-amiss, refusal-of, last-serial, step, run}
 use Rattle.tape.specs.Kept.{after}
 use Rattle.tape.specs.Passes.{Unrefused}
 use Rattle.tape.specs.declared.state.Tape.{Tape}
 use Rattle.tape.proofs.Passes.{Accepted, carried-number, range-sound}
-use Rattle.tape.proofs.Steps.{Passed, lives-so}
+use Rattle.tape.proofs.Steps.{mover-unlent, lives-so}
 use Rattle.tape.proofs.Tests.{Fit, refits, state-fit-so}
 use Rattle.revolutions.specs.Revolutions.{Meant, in-model, own, number, Deed, Turn, Meaning, recordings, turned, calls}
 use Rattle.revolutions.specs.Trading.{Playable}
@@ -28,10 +29,10 @@ use Rattle.revolutions.proofs.Chosen.{operand, operation, revolutions, 
 
 -- ---- one call
 
--- a call that no test hits does what `carried` says
-passes : {N : Numbers} (c : Call N) (L : Machine N) → Passed c L → Accepted c L (step c L)
+-- a call that no row refuses does what `carried` says
+passes : {N : Numbers} (c : Call N) (L : Machine N) → refusal-of c L ≡ none → Accepted c L (step c L)
 unfolding step
-passes c L p = record { passed = p; carries = rw (p .shape, p .known, p .all-live, p .standing, p .room, p .serial, p .sound-range, p .short) }
+passes c L e = record { passed = record { none-refuses = e }; carries = rw e }
 
 -- and answers with number 0
 answers : {N : Numbers} {c : Call N} {L : Machine N} → Accepted c L (step c L) → step c L .0 .number ≡ 0
@@ -39,7 +40,7 @@ answers {c = c} {L} a = rw (a .carries) (carried-number c L)
 
 -- a move tests the state alone
 moves-so : {N : Numbers} (c : Move) (L : Machine N) → fits false L ≡ true → Accepted (move c) L (step (move c) L)
-moves-so c L shape = passes (move c) L (record { shape = shape; known = refl; all-live = refl; standing = refl; room = refl; serial = refl; sound-range = refl; short = refl })
+moves-so c L shape = passes (move c) L (rw (mover-unlent c, shape))
 
 module _ {N : Numbers} {A : Arrays N} {m first k j : ℕ} {L : Machine N} {t : Tape} (f : Fit (machine t A)) (s : Stands A m first k j L) where
   -- on such a machine no move is refused
@@ -51,25 +52,24 @@ module _ {N : Numbers} {A : Arrays N} {m first k j : ℕ} {L : Machine N} {t : T
   lent-fits = let g = stands-fit s f in refits L (L .state) g (g .state)
 
   clears : Accepted clear L (step clear L)
-  clears = passes clear L (record { shape = lent-fits; known = refl; all-live = refl; standing = refl; room = refl; serial = refl; sound-range = refl; short = refl })
+  clears = passes clear L (rw lent-fits)
 
-  walks : (p : Pass N) → any-stale L (handles (plan p (L .state) .root)) ≡ false → any-plain (plan p (L .state) .root) ≡ false → Accepted (pass p) L (step (pass p) L)
+  walks : (p : Pass N) → first-amiss L (handles (plan p (L .state) .root)) ≡ none → any-plain (plan p (L .state) .root) ≡ false → Accepted (pass p) L (step (pass p) L)
   walks p root standing =
-      passes (pass p) L
-      (record { shape = lent-fits; known = refl; all-live = root; standing = standing; room = refl; serial = refl; sound-range = range-sound L (s .sound) (pass p) lent-fits root; short = refl })
+      passes (pass p) L (rw (lent-fits, root, standing, range-sound L (s .sound) (pass p) (rw lent-fits) root))
 
   -- a handle with the serial that is stored at its index
   alive : (i n : ℕ) → i < m + j → 0 < n → getD (L .lent .serial) i 0 ≡ n → live L (record { index = i; serial = n }) ≡ true
   alive i n below issued same = lives-so _ (L .lent .serial) _ (record { below = omega arith; serial = λ e. omega arith; same = same })
 
   -- the handles that were chosen for operands that stand before a deed are live
-  operand-lives : (x : Meant N) (os : List (Operand N)) → Placed m j x → any-stale L (handles os) ≡ false → any-stale L (handles (operand m first k x ∷ os)) ≡ false
+  operand-lives : (x : Meant N) (os : List (Operand N)) → Placed m j x → first-amiss L (handles os) ≡ none → first-amiss L (handles (operand m first k x ∷ os)) ≡ none
   operand-lives (in-model i) os h e = rw (alive i (first + i) (omega arith) (omega arith) (s .models i h)) e
   operand-lives (own i) os h e = rw (alive (m + i) (k + i) (omega arith) (omega arith) (s .owns i h)) e
   operand-lives (number x) os h e = e
 
   -- and so are those of the operands that a deed uses
-  both-live : (alone : Bool) (x y : Meant N) → Placed m j x → Placed m j y → any-stale L (handles (cond alone (operand m first k x ∷ []) (operand m first k x ∷ operand m first k y ∷ []))) ≡ false
+  both-live : (alone : Bool) (x y : Meant N) → Placed m j x → Placed m j y → first-amiss L (handles (cond alone (operand m first k x ∷ []) (operand m first k x ∷ operand m first k y ∷ []))) ≡ none
   both-live true x y p q = operand-lives x [] p refl
   both-live false x y p q = operand-lives x (operand m first k y ∷ []) p (operand-lives y [] q refl)
 
@@ -77,19 +77,9 @@ module _ {N : Numbers} {A : Arrays N} {m first k j : ℕ} {L : Machine N} {t : T
   operates : (d : Deed N) → Proper m j d → m + j < capacity A → (k + j ≡ last-serial → ⊥)
       → let c = operate (d .operation) (operand m first k (d .left)) (operand m first k (d .right)) (d .supplied) in Accepted c L (step c L)
   operates d p room spared =
-      passes
-      _
-      L
-      (record {
-        shape = lent-fits;
-        known = ap not (p .operation);
-        all-live = both-live (one-sided (d .operation)) (d .left) (d .right) (p .left) (p .right);
-        standing = refl;
-        room = rw (s .active) (ne-eqb (L .state .length) (capacity (L .lent)) (λ e. omega arith));
-        serial = rw (s .active) (ne-eqb (L .state .next) last-serial (λ e. spared (omega arith)));
-        sound-range = refl;
-        short = refl;
-      })
+      passes _ L
+      (rw
+      (lent-fits, p .operation, both-live (one-sided (d .operation)) (d .left) (d .right) (p .left) (p .right), s .active, ne-eqb (L .state .length) (capacity (L .lent)) (λ e. omega arith), s .active, ne-eqb (L .state .next) last-serial (λ e. spared (omega arith))))
 
 -- ---- operations one after another, and revolutions
 

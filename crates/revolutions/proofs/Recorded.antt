@@ -15,12 +15,12 @@ use Rattle.tape.specs.Handles.{Operand, plain, node, worth, handles}
 use Rattle.tape.specs.Operations.{Given, Row, apply, one-sided, used}
 use Rattle.tape.specs.Walk.{Edge}
 use Rattle.tape.specs.Answers.{Answer}
-use Rattle.tape.specs.Calls.{operate, edge, edges, any-stale, step, run}
+use Rattle.tape.specs.Calls.{operate, edge, edges, first-amiss, step, run}
 use Rattle.tape.specs.Kept.{after}
 use Rattle.tape.specs.Passes.{Unrefused}
 use Rattle.tape.specs.declared.node.Handle.{Handle}
 use Rattle.tape.proofs.Passes.{Accepted, accepted}
-use Rattle.tape.proofs.Steps.{Ready, ready, first-live, both-ok, by-one-sided, alone}
+use Rattle.tape.proofs.Steps.{Ready, ready, shape, all-live, room, first-live, both-ok, by-one-sided, alone}
 use Rattle.tape.proofs.Tests.{by-test}
 use Rattle.revolutions.specs.Revolutions.{Operation, recordings, Meant, number, meant, Deed, deed, Node, nodes, worth as worth-meant, edge as edge-meant}
 use Rattle.revolutions.proofs.Held.{Holds, noted}
@@ -71,16 +71,16 @@ called M o =
 
 module _ {N : Numbers} (M : Machine N) (b k : ℕ) (models owns adjoints : List (N .Number)) (ess : List (List (Edge N))) (long : length models ≡ b) (held : Holds M k (models ++ owns) adjoints ess) where
   -- a live operand is worth what it means
-  same-worth : (o : Operand N) (os : List (Operand N)) → any-stale M (handles (o ∷ os)) ≡ false → (worth M o ≡ worth-meant models owns (meant b o)) × (any-stale M (handles os) ≡ false)
+  same-worth : (o : Operand N) (os : List (Operand N)) → first-amiss M (handles (o ∷ os)) ≡ none → (worth M o ≡ worth-meant models owns (meant b o)) × (first-amiss M (handles os) ≡ none)
   same-worth (plain x) os all-live = (refl, all-live)
   same-worth (node h) os all-live =
       let (l, others) = first-live M h (handles os) all-live in
       (sym (getD-take (M .state .length) (M .lent .value) (h .index) (N .blank) (l .below)) ∙ ap (λ s. getD s (h .index) (N .blank)) (held .value) ∙ same-value N b models owns h long, others)
 
   -- the node that a call writes is the one that its deed makes, by whether the right operand is used
-  same-node : (o : Operation N) → any-stale M (handles (used (o .operation) (o .left) (o .right))) ≡ false → called M o ≡ made b models owns (deed b o)
+  same-node : (o : Operation N) → first-amiss M (handles (used (o .operation) (o .left) (o .right))) ≡ none → called M o ≡ made b models owns (deed b o)
   same-node o = sides (one-sided (o .operation)) refl where
-    sides : (t : Bool) → one-sided (o .operation) ≡ t → any-stale M (handles (cond t (o .left ∷ []) (o .left ∷ o .right ∷ []))) ≡ false
+    sides : (t : Bool) → one-sided (o .operation) ≡ t → first-amiss M (handles (cond t (o .left ∷ []) (o .left ∷ o .right ∷ []))) ≡ none
         → called M o ≡ made b models owns (record { operation = o .operation; left = meant b (o .left); right = cond t (number (N .nought)) (meant b (o .right)); supplied = o .supplied })
     sides true t all-live =
         let l = same-worth (o .left) [] all-live .0 in
@@ -97,10 +97,10 @@ module _ {N : Numbers} (M : Machine N) (b k : ℕ) (models owns adjoints : List 
       → let n = made b models owns (deed b o) in Holds (x .1) k (models ++ owns ++ (n .value ∷ [])) (adjoints ++ (N .nought ∷ [])) (ess ++ (n .edges ∷ []))
   one-more o x a =
       let s = row-of o (worth M (o .left)) (worth M (o .right)) in
-      let r : Ready M = ready M (a .passed .shape) (rw (held .active) at (a .passed .room)) in
-      let few = both-ok M (one-sided (o .operation)) (o .left) (o .right) (s .left) (s .right) (alone (o .operation) (worth M (o .left)) (worth M (o .right)) (o .supplied)) (a .passed .all-live) .few in
+      let r : Ready M = ready M (shape (a .passed)) (rw (held .active) at (room (a .passed))) in
+      let few = both-ok M (one-sided (o .operation)) (o .left) (o .right) (s .left) (s .right) (alone (o .operation) (worth M (o .left)) (worth M (o .right)) (o .supplied)) (all-live (a .passed)) .few in
       let Grown : Node N → Answer N × Machine N → Type 0 = λ n y. Holds (y .1) k (models ++ owns ++ (n .value ∷ [])) (adjoints ++ (N .nought ∷ [])) (ess ++ (n .edges ∷ [])) in
-      subst (λ n. Grown n x) (same-node o (a .passed .all-live))
+      subst (λ n. Grown n x) (same-node o (all-live (a .passed)))
       (subst (Grown (called M o)) (sym (a .carries)) (by-test (Grown (called M o)) (M .state .active) (λ _. noted M (s .value) (edges (o .left) (o .right) s) r few held) (λ f. absurd (true≢false (sym (held .active) ∙ f)))))
 
 -- ---- all of them

@@ -18,7 +18,7 @@ use Rattle.tape.specs.Calls.{Call, Pass, move, start, set-mark, rewind-to-mark,
 use Rattle.tape.specs.declared.state.Tape.{Tape}
 use Rattle.tape.proofs.Passes.{Accepted}
 use Rattle.tape.proofs.Recording.{SoundNodes, sound-kept}
-use Rattle.tape.proofs.Steps.{effect, last-or-below}
+use Rattle.tape.proofs.Steps.{shape, room, effect, last-or-below}
 use Rattle.tape.proofs.Tests.{by-test, Fit, fit, state-fit}
 use Rattle.revolutions.proofs.Walks.{length-walk}
 
@@ -87,7 +87,7 @@ onward P c L a is so = rw (a .carries) (so (rw (a .carries) at (sound-kept L (st
 -- a start leaves no node
 pub started : {N : Numbers} (M : Machine N) → Accepted (move start) M (step (move start) M) → Stands (M .lent) 0 (M .state .next) (M .state .next) 0 (step (move start) M .1)
 started M a =
-    let f = state-fit 65535 (M .state) (a .passed .shape) in
+    let f = state-fit 65535 (M .state) (shape (a .passed)) in
     rw (a .carries) (record { counted = omega arith; active = refl; models = λ i h. absurd (omega arith); owns = λ i h. absurd (omega arith); sound = λ i h. absurd (omega arith) })
 
 module _ {N : Numbers} {A : Arrays N} {m first k j : ℕ} {L : Machine N} (s : Stands A m first k j L) where
@@ -101,7 +101,7 @@ module _ {N : Numbers} {A : Arrays N} {m first k j : ℕ} {L : Machine N} (s : S
 
   pub cleared : Accepted clear L (step clear L) → Stands A m first k j (step clear L .1)
   cleared a =
-      let f : Fit L = fit L (a .passed .shape) in
+      let f : Fit L = fit L (shape (a .passed)) in
       onward (Stands A m first k j) clear L a (s .sound) (re-adjoined _ (length-cleared (L .state .length) (N .nought) (L .lent .adjoint) (omega arith)))
 
   pub walked : (p : Pass N) → Accepted (pass p) L (step (pass p) L) → Stands A m first k j (step (pass p) L .1)
@@ -124,8 +124,8 @@ module _ {N : Numbers} {A : Arrays N} {m first k j : ℕ} {L : Machine N} (s : S
 
   pub recorded : (op : ℕ) (left right : Operand N) (g : Given N) → let c = operate op left right g in Accepted c L (step c L) → Stands A m first k (suc j) (step c L .1)
   recorded op left right g a =
-      let f : Fit L = fit L (a .passed .shape) in
-      let not-full : L .state .length ≡ capacity (L .lent) → ⊥ = eqb-false _ _ (rw (s .active) at (a .passed .room)) in
+      let f : Fit L = fit L (shape (a .passed)) in
+      let not-full : L .state .length ≡ capacity (L .lent) → ⊥ = eqb-false _ _ (rw (s .active) at (room (a .passed))) in
       let row = apply op (worth L left) (worth L right) g in
       let At : Answer N × Machine N → Type 0 = λ x. SoundNodes (x .1) → Stands A m first k (suc j) (x .1) in
       onward (Stands A m first k (suc j)) (operate op left right g) L a (s .sound)

@@ -4,6 +4,7 @@ use native.Mathlib.Nat.{add-zero, add-suc, suc-add, zero-add}
 use native.Mathlib.Omega.{arith}
 use mathlib.Core.Path.{_≡_, refl}
 use mathlib.Core.Bool.{Bool, true, false, cond}
+use mathlib.Core.Option.{none}
 use mathlib.Core.List.{List, [], _∷_, _++_, map}
 use borrow.Author.Tests.{ltb-true, ltb-false, eqb-false, not-false}
 use lib.Dec.{ltb}
@@ -12,11 +13,11 @@ use Rattle.tape.specs.Numbers.{Numbers}
 use Rattle.tape.specs.Machine.{Arrays, Machine, capacity}
 use Rattle.tape.specs.Handles.{Operand, plain, node, handles}
 use Rattle.tape.specs.Operations.{one-sided}
-use Rattle.tape.specs.Calls.{Call, move, start, set-mark, rewind-to-mark, operate, clear, pass, backward-to-mark, propagate-mark-to-start, any-stale, last-serial, step, run}
+use Rattle.tape.specs.Calls.{Call, move, start, set-mark, rewind-to-mark, operate, clear, pass, backward-to-mark, propagate-mark-to-start, first-amiss, last-serial, step, run}
 use Rattle.tape.specs.Kept.{after}
 use Rattle.tape.specs.Passes.{Unrefused}
 use Rattle.tape.proofs.Passes.{Accepted, accepted}
-use Rattle.tape.proofs.Steps.{first-live}
+use Rattle.tape.proofs.Steps.{shape, known, all-live, serial, first-live}
 use Rattle.tape.proofs.Tests.{by-test, fit}
 use Rattle.revolutions.specs.Revolutions.{Operation, Revolution, Session, number, meant, deed, turn, meaning, recordings, turned, calls, AtOrPast, Plays}
 use Rattle.revolutions.proofs.Runs.{reads-left-out, unrefused-parts}
@@ -33,14 +34,14 @@ twice false x y = refl
 -- behind a model of m nodes, with j own nodes
 module _ {N : Numbers} (L : Machine N) (m j : ℕ) (nodes : L .state .length ≡ m + j) where
   -- a live handle's node stands before the one to be recorded
-  placed : (o : Operand N) (os : List (Operand N)) → any-stale L (handles (o ∷ os)) ≡ false → Placed m j (meant m o) × (any-stale L (handles os) ≡ false)
+  placed : (o : Operand N) (os : List (Operand N)) → first-amiss L (handles (o ∷ os)) ≡ none → Placed m j (meant m o) × (first-amiss L (handles os) ≡ none)
   placed (plain x) os e = (tt, e)
   placed (node h) os e =
       let (l, others) = first-live L h (handles os) e in
       (by-test (Placed m j) (ltb (h .index) m) (ltb-true _ _) (λ t. omega (arith, ltb-false (h .index) m t)), others)
 
   -- and so do those of the operands that an operation uses
-  both-placed : (alone : Bool) (left right : Operand N) → any-stale L (handles (cond alone (left ∷ []) (left ∷ right ∷ []))) ≡ false
+  both-placed : (alone : Bool) (left right : Operand N) → first-amiss L (handles (cond alone (left ∷ []) (left ∷ right ∷ []))) ≡ none
       → Placed m j (meant m left) × Placed m j (cond alone (number (N .nought)) (meant m right))
   both-placed true left right e = (placed left [] e .0, tt)
   both-placed false left right e = let l = placed left (right ∷ []) e in (l .0, placed right [] (l .1) .0)
@@ -48,8 +49,8 @@ module _ {N : Numbers} (L : Machine N) (m j : ℕ) (nodes : L .state .length ≡
   -- an operation that is not refused
   proper : (o : Operation N) → let c = operate (o .operation) (o .left) (o .right) (o .supplied) in Accepted c L (step c L) → Proper m j (deed m o)
   proper o a =
-      let both = both-placed (one-sided (o .operation)) (o .left) (o .right) (a .passed .all-live) in
-      record { operation = not-false _ (a .passed .known); left = both .0; right = both .1; unused = twice (one-sided (o .operation)) _ _ }
+      let both = both-placed (one-sided (o .operation)) (o .left) (o .right) (all-live (a .passed)) in
+      record { operation = not-false _ (known (a .passed)); left = both .0; right = both .1; unused = twice (one-sided (o .operation)) _ _ }
 
 -- ---- operations one after another
 
@@ -65,7 +66,7 @@ module _ {N : Numbers} {A : Arrays N} {m first k : ℕ} where
   told (o ∷ os) j L s (u, us) =
       let a = accepted (operate (o .operation) (o .left) (o .right) (o .supplied)) L u in
       let rest = told os (suc j) _ (recorded s (o .operation) (o .left) (o .right) (o .supplied) a) us in
-      let spent : L .state .next ≡ last-serial → ⊥ = eqb-false _ _ (rw (s .active) at (a .passed .serial)) in
+      let spent : L .state .next ≡ last-serial → ⊥ = eqb-false _ _ (rw (s .active) at (serial (a .passed))) in
       record {
         deeds = (proper L m j (s .counted .nodes) o a, rest .deeds);
         serials = λ h. omega (arith, rest .serials (omega arith));
@@ -87,7 +88,7 @@ module _ {N : Numbers} {A : Arrays N} {m first : ℕ} where
       let L₁ = after (recordings os) L in
       let s₁ = t .stands in
       let a = accepted back L₁ p in
-      let alive = first-live L₁ (r .root) [] (a .passed .all-live) .0 in
+      let alive = first-live L₁ (r .root) [] (all-live (a .passed)) .0 in
       let n = length-map os (deed m) in
       let more = told-turns rs _ _ (rewound (walked s₁ _ a) (accepted (move rewind-to-mark) (step back L₁ .1) w)) roots rest in
       ((record { deeds = t .deeds; room = omega arith; root = omega arith }, more .0), λ h. omega (arith, more .1 (omega (arith, t .serials (omega arith)))))
@@ -106,11 +107,11 @@ fitting s M roots (u, us) =
     let M₃ = step (move set-mark) M₂ .1 in
     let b = accepted clear M₃ w in
     let s₃ = marked (rw zero-add at (t .stands)) (accepted (move set-mark) M₂ v) in
-    let f = fit M₃ (b .passed .shape) in
+    let f = fit M₃ (shape (b .passed)) in
     let more = told-turns (s .revolutions) _ _ (cleared s₃ b) roots (unrefused-parts (turned (s .revolutions)) (pass propagate-mark-to-start ∷ []) (step clear M₃ .1) rest .0) in
     let n = length-map os (deed 0) in
     record {
-      state = a .passed .shape;
+      state = shape (a .passed);
       arrays = omega arith;
       model = t .deeds;
       room = omega arith;

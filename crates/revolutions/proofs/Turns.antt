@@ -15,7 +15,7 @@ use Rattle.tape.specs.Kept.{after}
 use Rattle.tape.specs.Passes.{Unrefused}
 use Rattle.tape.specs.declared.node.Handle.{Handle}
 use Rattle.tape.proofs.Passes.{accepted}
-use Rattle.tape.proofs.Steps.{first-live}
+use Rattle.tape.proofs.Steps.{all-live, first-live}
 use Rattle.revolutions.specs.Revolutions.{Revolution, Session, recordings, turned, calls, deed, Deed, Turn, turn, Meaning, meaning, Node, nodes, AtOrPast, Plays, model-adjoints}
 use Rattle.revolutions.specs.Folded.{Part, seed, folded, folded-all, one-by-one}
 use Rattle.revolutions.proofs.Held.{Holds, started, mark-set, adjoints-set, rewound, whole, high-part}
@@ -52,7 +52,7 @@ module _ {N : Numbers} (M : Machine N) (m : ℕ) (values adjoints : List (N .Num
   to-mark low high h l held u =
       let p : Pass N = backward-to-mark (node h) in
       let n = M .state .length in
-      let alive = first-live M h [] (accepted (pass p) M u .passed .all-live) .0 in
+      let alive = first-live M h [] (all-live (accepted (pass p) M u .passed)) .0 in
       let all : n ≡ length low + length high = whole (edges-at (M .lent)) n low high (held .edge) in
       let past : map (edges-at (M .lent)) (range (plan p (M .state))) ≡ high = rw (held .marked, ← l) (high-part (edges-at (M .lent)) n low high (held .edge)) in
       let first = take-set-lt n (M .lent .adjoint) (h .index) (N .one) (alive .below) ∙ ap (λ s. set s (h .index) (N .one)) (held .adjoint) in

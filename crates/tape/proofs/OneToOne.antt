@@ -1,20 +1,27 @@
 -- What an answer says can be read back from its number and the state.
 use Prim.Native.Nat.{ℕ}
 use mathlib.Core.Path.{_≡_, refl, sym, ap, _∙_}
-use mathlib.Core.List.{[], _∷_}
-use lib.ListN.{getD}
+use mathlib.Core.Bool.{false, cond}
+use native.Mathlib.Omega.{arith}
+use borrow.Author.Tests.{ne-eqb}
+use mathlib.Core.List.{List, [], _∷_}
+use lib.Dec.{eqb}
 use Rattle.tape.specs.Numbers.{floats}
 use Rattle.tape.specs.Machine.{Arrays}
-use Rattle.tape.specs.Answers.{number, outcome, Told}
+use Rattle.tape.specs.Answers.{number, listed, outcome, Told}
 use Rattle.tape.specs.declared.errors.Refusal.{Refusal}
 use Rattle.tape.specs.declared.errors.Refusal.the-variants.{Misshapen, UnknownOperation, NotLive, Detached, Full, SerialsSpent, UnsoundEdge, ListingTooLong}
 use Rattle.tape.specs.declared.state.Moved.{Moved}
 use Rattle.tape.specs.declared.state.Moved.the-variants.{Done, Refused}
 use Rattle.tape.specs.declared.state.Tape.{Tape}
 
--- x at number 0, and f of the refusal that has the number
+abbrev among : {A : Type 0} → List Refusal → A → (Refusal → A) → ℕ → A
+among [] x f k = x
+among (r ∷ rs) x f k = cond (eqb (number r) k) (f r) (among rs x f k)
+
+-- f of the listed refusal that has the number, and x where none has
 abbrev pub by-number : {A : Type 0} → A → (Refusal → A) → ℕ → A
-by-number x f k = getD (x ∷ f Misshapen ∷ f UnknownOperation ∷ f NotLive ∷ f Detached ∷ f Full ∷ f SerialsSpent ∷ f UnsoundEdge ∷ f ListingTooLong ∷ []) k x
+by-number x f k = among listed x f k
 
 pub at-refusal : {A : Type 0} (x : A) (f : Refusal → A) (r : Refusal) → by-number x f (number r) ≡ f r
 at-refusal x f Misshapen = refl
@@ -25,6 +32,10 @@ at-refusal x f Full = refl
 at-refusal x f SerialsSpent = refl
 at-refusal x f UnsoundEdge = refl
 at-refusal x f ListingTooLong = refl
+
+-- no refusal has number 0
+pub not-nought : (r : Refusal) → eqb (number r) 0 ≡ false
+not-nought r = ne-eqb (number r) 0 (λ e. let z : _≡_ {A = ℕ} 0 1 = sym (at-refusal 1 (λ _. 0) r) ∙ ap (by-number 1 (λ _. 0)) e in omega arith)
 
 abbrev meant : ℕ → Tape → Moved
 meant k t = by-number (Done t) (λ r. Refused r t) k

@@ -3,25 +3,28 @@ use Prim.Native.Nat.{ℕ, zero, suc, _+_, _-_, _≤_, _<_, zero-le}
 use native.Mathlib.Nat.{zero-add, add-zero, add-suc, suc-add, sub-self, add-sub-of-le}
 use native.Mathlib.Omega.{arith}
 use mathlib.Core.Path.{_≡_, refl, sym, ap, subst, _∙_}
-use mathlib.Core.Bool.{true, false, true≢false, and-eq-true-iff}
+use mathlib.Core.Bool.{true, false, not, _&&_, true≢false, and-eq-true-iff}
 use mathlib.Core.List.{List, [], _∷_, _++_, map, map-append}
+use mathlib.Core.Option.{some, none, Option·some-injective}
 use borrow.Author.Tests.{ltb-true, not-true, not-false}
-use lib.Dec.{ltb}
+use lib.Dec.{ltb, eqb}
 use lib.ListN.{length, getD, set, length-map}
 use lib.Seq.{getD-set-other}
 use Rattle.tape.specs.Numbers.{Numbers}
-use Rattle.tape.specs.Machine.{Arrays, Machine, machine, slot, all, fits}
-use Rattle.tape.specs.Handles.{plain, node, handles}
+use Rattle.tape.specs.Machine.{Arrays, Machine, machine, capacity, slot, all, is-lent, fits}
+use Rattle.tape.specs.Handles.{plain, node, live, handles, any-plain}
 use Rattle.tape.specs.Walk.{Edge, push, walk, edges-from, edges-at, indexes, sum, visited, sound}
-use Rattle.tape.specs.Answers.{Answer, done, counted}
-use Rattle.tape.specs.Calls.{reset-mark, Pass, backward, backward-to-mark, backward-mark-to-start, propagate-to-mark, propagate-mark-to-start, Call, move, operate, clear, pass, value-of, adjoint-of, is-live, list, moved, with-adjoints, plan, asked, any-stale, refusals, carried, step, run}
+use Rattle.tape.specs.Answers.{Answer, number, done, counted}
+use Rattle.tape.specs.Calls.{reset-mark, Pass, backward, backward-to-mark, backward-mark-to-start, propagate-to-mark, propagate-mark-to-start, Call, move, operate, clear, pass, value-of, adjoint-of, is-live, list, moved, with-adjoints, plan, let-in, asked, unknown, first-amiss, would-record, too-long, last-serial, refusals, refusal-of, carried, step, run}
 use Rattle.tape.specs.Kept.{fresh, after}
 use Rattle.tape.specs.Passes.{EachEdge, push-edge-by-edge, OnlyAdjoints, EmptyRange, BothRanges, NeverUnsound, Unrefused, counts, in-one, in-two}
 use Rattle.tape.specs.declared.errors.Refusal.the-variants.{UnsoundEdge}
+use Rattle.tape.specs.declared.node.Handle.{Handle}
+use Rattle.tape.specs.declared.state.Caller.the-variants as caller
 use Rattle.tape.proofs.OneToOne.{by-number, at-refusal, told}
 use Rattle.tape.proofs.Ranges.{length-indexes, indexes-cut, sum-append, all-append, all-below}
 use Rattle.tape.proofs.Recording.{SoundNodes, recording}
-use Rattle.tape.proofs.Steps.{Hit, here, there, Passed, by-refusal, first-live}
+use Rattle.tape.proofs.Steps.{Hit, here, there, hit, hits, other, granted-shape, Passed, shape, sound-range, by-refusal, first-live}
 use Rattle.tape.proofs.Tests.{by-test, Fit, fit, state-fit-so, refits}
 
 -- ---- each edge
@@ -117,10 +120,10 @@ one-walk : {N : Numbers} (M : Machine N) → Unrefused (run (in-two N) M .0) →
 one-walk M (u, (v, _)) =
     let high = accepted (pass propagate-to-mark) M u in
     let low = accepted (pass propagate-mark-to-start) (carried (pass propagate-to-mark) M .1) (rw (high .carries) at v) in
-    let f : Fit M = fit M (high .passed .shape) in
+    let f : Fit M = fit M (shape (high .passed)) in
     let mark = M .state .mark in
     let end = M .state .length in
-    let every = sound-cut (M .lent) 0 mark end zero-le (f .state .mark) (high .passed .sound-range) (low .passed .sound-range) in
+    let every = sound-cut (M .lent) 0 mark end zero-le (f .state .mark) (sound-range (high .passed)) (sound-range (low .passed)) in
     let visits = visited-cut (M .lent) 0 mark end zero-le (f .state .mark) in
     let walks = walk-cut (M .lent) 0 mark end zero-le (f .state .mark) (M .lent .adjoint) in
     two-calls (move reset-mark) (pass propagate-to-mark) M (resets M f) (walks-whole M f every)
@@ -137,7 +140,7 @@ both-ranges = record {
 
 -- ---- sound tapes
 
-ends : {N : Numbers} (p : Pass N) (M : Machine N) → Fit M → any-stale M (handles (plan p (M .state) .root)) ≡ false → plan p (M .state) .end ≤ M .state .length
+ends : {N : Numbers} (p : Pass N) (M : Machine N) → Fit M → first-amiss M (handles (plan p (M .state) .root)) ≡ none → plan p (M .state) .end ≤ M .state .length
 ends (backward (plain x)) M f all-live = omega arith
 ends (backward (node h)) M f all-live = let l = first-live M h [] all-live .0 in omega arith
 ends (backward-to-mark x) M f all-live = omega arith
@@ -146,10 +149,10 @@ ends propagate-to-mark M f all-live = omega arith
 ends propagate-mark-to-start M f all-live = omega arith
 
 module _ {N : Numbers} (M : Machine N) (nodes : SoundNodes M) where
-  pub range-sound : (c : Call N) → fits (asked c (M .state) .arrays) M ≡ true → any-stale M (handles (asked c (M .state) .operands)) ≡ false → all (map (sound (M .lent)) (asked c (M .state) .range)) ≡ true
-  range-sound (pass p) shape all-live =
+  pub range-sound : (c : Call N) → let-in (asked c (M .state) .caller) M ≡ none → first-amiss M (handles (asked c (M .state) .operands)) ≡ none → all (map (sound (M .lent)) (asked c (M .state) .range)) ≡ true
+  range-sound (pass p) in-so all-live =
       let P = plan p (M .state) in
-      let end : P .end ≤ M .state .length = ends p M (fit M shape) all-live in
+      let end : P .end ≤ M .state .length = ends p M (fit M (granted-shape caller.Passing M in-so)) all-live in
       all-below (sound (M .lent)) (P .from) (P .end - P .from) (λ j l h. nodes j (omega arith))
   range-sound (move m) _ _ = refl
   range-sound (operate op left right g) _ _ = refl
@@ -159,8 +162,22 @@ module _ {N : Numbers} (M : Machine N) (nodes : SoundNodes M) where
   range-sound (is-live x) _ _ = refl
   range-sound (list bytes) _ _ = refl
 
+  not-amiss : (hs : List Handle) → first-amiss M hs ≡ some UnsoundEdge → ⊥
+  not-amiss [] e = let z : _≡_ {A = ℕ} 0 1 = cc in omega arith
+  not-amiss (h ∷ hs) e = by-test (λ o. o ≡ some UnsoundEdge → ⊥) (live M h) (λ _. not-amiss hs) (λ _ e′. let z : _≡_ {A = ℕ} 3 7 = ap number (Option·some-injective _ _ e′) in omega arith) e
+
+  -- no other row gives refusal 7
   not-hit : (c : Call N) → Hit UnsoundEdge (refusals (asked c (M .state)) M) → ⊥
-  not-hit c (there shape (there _ (there all-live (there _ (there _ (there _ (here unsound))))))) = true≢false (sym (range-sound c (not-false _ shape) all-live) ∙ not-true _ unsound)
+  not-hit c (here e) = let q = asked c (M .state) in other (not (fits (is-lent (q .caller)) M)) _ _ e refl
+  not-hit c (there _ (here e)) = let q = asked c (M .state) in other (unknown (q .operation)) _ _ e refl
+  not-hit c (there _ (there _ (here e))) = let q = asked c (M .state) in not-amiss (handles (q .operands)) e
+  not-hit c (there _ (there _ (there _ (here e)))) = let q = asked c (M .state) in other (q .on-tape && any-plain (q .operands)) _ _ e refl
+  not-hit c (there _ (there _ (there _ (there _ (here e))))) = let q = asked c (M .state) in other (would-record (q .operation) M && eqb (M .state .length) (capacity (M .lent))) _ _ e refl
+  not-hit c (there _ (there _ (there _ (there _ (there _ (here e)))))) = let q = asked c (M .state) in other (would-record (q .operation) M && eqb (M .state .next) last-serial) _ _ e refl
+  not-hit c (there in-so (there _ (there all-live (there _ (there _ (there _ (here e))))))) =
+      let sound-so = range-sound c in-so all-live in
+      true≢false (sym sound-so ∙ not-true _ (hits _ _ _ e))
+  not-hit c (there _ (there _ (there _ (there _ (there _ (there _ (there _ (here e)))))))) = let q = asked c (M .state) in other (too-long (q .room) M) _ _ e refl
   not-hit c (there _ (there _ (there _ (there _ (there _ (there _ (there _ (there _ h)))))))) = elim h [ ]
 
 pub carried-number : {N : Numbers} (c : Call N) (M : Machine N) → carried c M .0 .number ≡ 0
@@ -181,6 +198,6 @@ never-unsound = record {
       (λ x. x .0 .number ≡ 7 → ⊥)
       c
       M
-      (λ r h e. not-hit M (recording .sound-nodes A before) c (subst (λ q. Hit q (refusals (asked c (M .state)) M)) (told .numbers r UnsoundEdge e) h))
+      (λ r h e. not-hit M (recording .sound-nodes A before) c (hit _ _ (h ∙ ap some (told .numbers r UnsoundEdge e))))
       (λ _ e. omega (arith, carried-number c M));
 }

@@ -1,14 +1,18 @@
 -- What a call returns, as document 01 has it: a number, a value, a handle and a count. Number 0 is an answer; the others are the refusals, in the order in which they are tested.
 use Prim.Native.Nat.{ℕ}
 use mathlib.Core.Path.{_≡_}
+use mathlib.Core.List.{List, [], _∷_}
 use mathlib.Core.Option.{Option, none, some}
 use Rattle.tape.specs.Numbers.{Numbers, floats}
 use Rattle.tape.specs.Machine.{Arrays, Machine, machine}
 use Rattle.tape.specs.declared.errors.Refusal.{Refusal}
 use Rattle.tape.specs.declared.errors.Refusal.the-variants.{Misshapen, UnknownOperation, NotLive, Detached, Full, SerialsSpent, UnsoundEdge, ListingTooLong}
 use Rattle.tape.specs.declared.node.Handle.{Handle}
+use Rattle.tape.specs.declared.state.Admission.{Admission}
+use Rattle.tape.specs.declared.state.Admission.the-variants as admission
 use Rattle.tape.specs.declared.state.Moved.{Moved}
 use Rattle.tape.specs.declared.state.Moved.the-variants.{Done, Refused}
+use Rattle.tape.specs.declared.state.Tape.{Tape}
 
 abbrev pub number : Refusal → ℕ
 number Misshapen = 1
@@ -19,6 +23,10 @@ number Full = 5
 number SerialsSpent = 6
 number UnsoundEdge = 7
 number ListingTooLong = 8
+
+-- document 01's list of refusals
+abbrev pub listed : List Refusal
+listed = Misshapen ∷ UnknownOperation ∷ NotLive ∷ Detached ∷ Full ∷ SerialsSpent ∷ UnsoundEdge ∷ ListingTooLong ∷ []
 
 pub record Answer (N : Numbers) : Type 0 where
   pub number : ℕ
@@ -57,6 +65,15 @@ recorded v h = answer 0 v (some h) 0
 abbrev pub outcome : Moved → Arrays floats → Answer floats × Machine floats
 outcome (Done t) A = (done, machine t A)
 outcome (Refused r t) A = (refused r, machine t A)
+
+abbrev pub admitted : Option Refusal → Admission
+admitted none = admission.Granted
+admitted (some r) = admission.Refused r
+
+-- the state after a move, if it was let in
+abbrev pub moved-by : Admission → Tape → Tape → Moved
+moved-by admission.Granted t after = Done after
+moved-by (admission.Refused r) t after = Refused r t
 
 -- no two of the code's answers say the same, and no two refusals have one number. Proved in proofs/OneToOne.antt
 pub record Told : Type 0 where

@@ -1,22 +1,25 @@
 -- The calls, and what each does to the machine: `step` carries out one call and `run` a list of them.
 -- The refusals stand in one table, in order. The first test that hits refuses the call and leaves the machine as it was.
 use Prim.Native.Nat.{ℕ, _+_, _-_}
-use mathlib.Core.Bool.{Bool, true, false, not, _&&_, _||_, cond}
+use mathlib.Core.Bool.{Bool, true, false, not, _&&_, cond}
 use mathlib.Core.List.{List, [], _∷_, _++_, map}
 use mathlib.Core.Option.{Option, none, some}
 use lib.Dec.{ltb, eqb}
 use lib.ListN.{length, set, drop, replicate}
 use lib.Seq.{sets}
 use Rattle.tape.specs.Numbers.{Numbers}
-use Rattle.tape.specs.Machine.{Arrays, Machine, arrays, machine, capacity, slot, all, fits}
-use Rattle.tape.specs.Handles.{Operand, plain, node, live, worth, gradient, is-live-node, handles, any-plain}
+use Rattle.tape.specs.Machine.{Arrays, Machine, arrays, machine, capacity, slot, all, lengths, is-lent, fitting}
+use Rattle.tape.specs.Handles.{Operand, plain, node, live, amiss, worth, gradient, is-live-node, handles, any-plain}
 use Rattle.tape.specs.Operations.{Given, Row, apply, known, used}
 use Rattle.tape.specs.Walk.{Edge, walk, edges-at, indexes, visited, sound}
 use Rattle.tape.specs.Listing.{listing}
 use Rattle.tape.specs.Answers.{Answer, refused, done, told, detached, recorded, counted}
 use Rattle.tape.specs.declared.errors.Refusal.{Refusal}
-use Rattle.tape.specs.declared.errors.Refusal.the-variants.{Misshapen, UnknownOperation, NotLive, Detached, Full, SerialsSpent, UnsoundEdge, ListingTooLong}
+use Rattle.tape.specs.declared.errors.Refusal.the-variants.{Misshapen, UnknownOperation, Detached, Full, SerialsSpent, UnsoundEdge, ListingTooLong}
 use Rattle.tape.specs.declared.node.Handle.{Handle}
+use Rattle.tape.specs.declared.state.Caller.{Caller}
+use Rattle.tape.specs.declared.state.Caller.the-variants as caller
+use Rattle.tape.specs.declared.state.Lengths.{Lengths}
 use Rattle.tape.specs.declared.state.Tape.{Tape}
 
 pub data Move : Type 0 where
@@ -39,13 +42,26 @@ pub data Call (N : Numbers) : Type 0 where
 
 -- ---- start, stop, marks and rewinds
 
+-- a state with one field changed
+abbrev pub with-length : ℕ → Tape → Tape
+with-length n t = record { length = n; mark = t .mark; active = t .active; next = t .next }
+
+abbrev pub with-mark : ℕ → Tape → Tape
+with-mark n t = record { length = t .length; mark = n; active = t .active; next = t .next }
+
+abbrev pub with-active : Bool → Tape → Tape
+with-active b t = record { length = t .length; mark = t .mark; active = b; next = t .next }
+
+abbrev pub with-next : ℕ → Tape → Tape
+with-next n t = record { length = t .length; mark = t .mark; active = t .active; next = n }
+
 abbrev pub moved : Move → Tape → Tape
-moved start t = record { length = 0; mark = 0; active = true; next = t .next }
-moved stop t = record { length = t .length; mark = t .mark; active = false; next = t .next }
-moved set-mark t = record { length = t .length; mark = t .length; active = t .active; next = t .next }
-moved reset-mark t = record { length = t .length; mark = 0; active = t .active; next = t .next }
-moved rewind-to-mark t = record { length = t .mark; mark = t .mark; active = t .active; next = t .next }
-moved rewind-to-init t = record { length = 0; mark = 0; active = t .active; next = t .next }
+moved start t = with-active true (with-mark 0 (with-length 0 t))
+moved stop t = with-active false t
+moved set-mark t = with-mark (t .length) t
+moved reset-mark t = with-mark 0 t
+moved rewind-to-mark t = with-length (t .mark) t
+moved rewind-to-init t = with-mark 0 (with-length 0 t)
 
 -- ---- recording
 
@@ -65,7 +81,7 @@ issued t = record { index = t .length; serial = t .next }
 
 -- the state once that node is recorded
 abbrev pub grown : Tape → Tape
-grown t = record { length = t .length + 1; mark = t .mark; active = t .active; next = t .next + 1 }
+grown t = with-next (t .next + 1) (with-length (t .length + 1) t)
 
 -- the arrays once the node is written at that index, its adjoint +0.0, its edges from its slot on; edge slots that it does not use keep what they held
 abbrev pub with-node : {N : Numbers} → Handle → Arrays N → N .Number → List (Edge N) → Arrays N
@@ -126,8 +142,8 @@ walked P M = with-adjoints M (walk (P .from) (map (edges-at (M .lent)) (range P)
 
 -- what a call asks for
 pub record Asked (N : Numbers) : Type 0 where
-  -- is it lent the tape's arrays
-  pub arrays : Bool
+  -- which call asks
+  pub caller : Caller
   -- the operation it records, if it does
   pub operation : Option ℕ
   -- the operands, root or read argument whose handles have to be live
@@ -139,23 +155,52 @@ pub record Asked (N : Numbers) : Type 0 where
   -- the bytes lent for a listing, if it is one
   pub room : Option ℕ
 
+-- a call that asks for nothing but to be let in, and what others ask besides
+abbrev pub asks : {N : Numbers} → Caller → Asked N
+asks k = record { caller = k; operation = none; operands = []; on-tape = false; range = []; room = none }
+
+abbrev pub with-operation : {N : Numbers} → ℕ → Asked N → Asked N
+with-operation op q = record { caller = q .caller; operation = some op; operands = q .operands; on-tape = q .on-tape; range = q .range; room = q .room }
+
+abbrev pub with-operands : {N : Numbers} → List (Operand N) → Asked N → Asked N
+with-operands os q = record { caller = q .caller; operation = q .operation; operands = os; on-tape = q .on-tape; range = q .range; room = q .room }
+
+abbrev pub all-on-tape : {N : Numbers} → Asked N → Asked N
+all-on-tape q = record { caller = q .caller; operation = q .operation; operands = q .operands; on-tape = true; range = q .range; room = q .room }
+
+abbrev pub with-range : {N : Numbers} → List ℕ → Asked N → Asked N
+with-range is q = record { caller = q .caller; operation = q .operation; operands = q .operands; on-tape = q .on-tape; range = is; room = q .room }
+
+abbrev pub with-room : {N : Numbers} → ℕ → Asked N → Asked N
+with-room bytes q = record { caller = q .caller; operation = q .operation; operands = q .operands; on-tape = q .on-tape; range = q .range; room = some bytes }
+
+-- a start is a call of its own
+abbrev pub mover : Move → Caller
+mover start = caller.Start
+mover stop = caller.Move
+mover set-mark = caller.Move
+mover reset-mark = caller.Move
+mover rewind-to-mark = caller.Move
+mover rewind-to-init = caller.Move
+
 abbrev pub asked : {N : Numbers} → Call N → Tape → Asked N
-asked (move m) t = record { arrays = false; operation = none; operands = []; on-tape = false; range = []; room = none }
-asked (operate op left right g) t = record { arrays = true; operation = some op; operands = used op left right; on-tape = false; range = []; room = none }
-asked clear t = record { arrays = true; operation = none; operands = []; on-tape = false; range = []; room = none }
-asked (pass p) t = record { arrays = true; operation = none; operands = plan p t .root; on-tape = true; range = range (plan p t); room = none }
-asked (value-of x) t = record { arrays = true; operation = none; operands = x ∷ []; on-tape = false; range = []; room = none }
-asked (adjoint-of x) t = record { arrays = true; operation = none; operands = x ∷ []; on-tape = true; range = []; room = none }
-asked (is-live x) t = record { arrays = true; operation = none; operands = []; on-tape = false; range = []; room = none }
-asked (list bytes) t = record { arrays = true; operation = none; operands = []; on-tape = false; range = []; room = some bytes }
+asked (move m) t = asks (mover m)
+asked (operate op left right g) t = with-operation op (with-operands (used op left right) (asks caller.Recording))
+asked clear t = asks caller.Clearing
+asked (pass p) t = with-range (range (plan p t)) (all-on-tape (with-operands (plan p t .root) (asks caller.Passing)))
+asked (value-of x) t = with-operands (x ∷ []) (asks caller.Value)
+asked (adjoint-of x) t = all-on-tape (with-operands (x ∷ []) (asks caller.Adjoint))
+asked (is-live x) t = asks caller.Liveness
+asked (list bytes) t = with-room bytes (asks caller.Listing)
 
 abbrev pub unknown : Option ℕ → Bool
 unknown none = false
 unknown (some op) = not (known op)
 
-abbrev pub any-stale : {N : Numbers} → Machine N → List Handle → Bool
-any-stale M [] = false
-any-stale M (h ∷ hs) = not (live M h) || any-stale M hs
+-- the first handle that is not live decides
+abbrev pub first-amiss : {N : Numbers} → Machine N → List Handle → Option Refusal
+first-amiss M [] = none
+first-amiss M (h ∷ hs) = cond (live M h) (first-amiss M hs) (some (amiss (M .state) h))
 
 -- does it record, the tape being active
 abbrev pub would-record : {N : Numbers} → Option ℕ → Machine N → Bool
@@ -171,22 +216,42 @@ too-long (some bytes) M = ltb bytes (length (listing M))
 abbrev pub last-serial : ℕ
 last-serial = 18446744073709551615
 
-abbrev pub refusals : {N : Numbers} → Asked N → Machine N → List (Refusal × Bool)
+abbrev pub when : Bool → Refusal → Option Refusal
+when hit r = cond hit (some r) none
+
+-- what is asked at the head of every call
+abbrev pub admission : Caller → Lengths → Tape → Option Refusal
+admission k n t = when (not (fitting (is-lent k) n t)) Misshapen
+
+abbrev pub let-in : {N : Numbers} → Caller → Machine N → Option Refusal
+let-in k M = admission k (lengths (M .lent)) (M .state)
+
+-- the table: each row gives a refusal or none
+abbrev pub refusals : {N : Numbers} → Asked N → Machine N → List (Option Refusal)
 refusals q M =
-    (Misshapen, not (fits (q .arrays) M))
-    ∷ (UnknownOperation, unknown (q .operation))
-    ∷ (NotLive, any-stale M (handles (q .operands)))
-    ∷ (Detached, q .on-tape && any-plain (q .operands))
-    ∷ (Full, would-record (q .operation) M && eqb (M .state .length) (capacity (M .lent)))
-    ∷ (SerialsSpent, would-record (q .operation) M && eqb (M .state .next) last-serial)
-    ∷ (UnsoundEdge, not (all (map (sound (M .lent)) (q .range))))
-    ∷ (ListingTooLong, too-long (q .room) M)
+    let-in (q .caller) M
+    ∷ when (unknown (q .operation)) UnknownOperation
+    ∷ first-amiss M (handles (q .operands))
+    ∷ when (q .on-tape && any-plain (q .operands)) Detached
+    ∷ when (would-record (q .operation) M && eqb (M .state .length) (capacity (M .lent))) Full
+    ∷ when (would-record (q .operation) M && eqb (M .state .next) last-serial) SerialsSpent
+    ∷ when (not (all (map (sound (M .lent)) (q .range)))) UnsoundEdge
+    ∷ when (too-long (q .room) M) ListingTooLong
     ∷ []
 
--- the first test that hits; otherwise what the call does
-abbrev pub unless : {N : Numbers} → List (Refusal × Bool) → Machine N → Answer N × Machine N → Answer N × Machine N
-unless [] M otherwise = otherwise
-unless ((r, hit) ∷ ts) M otherwise = cond hit (refused r, M) (unless ts M otherwise)
+abbrev pub first : List (Option Refusal) → Option Refusal
+first [] = none
+first (none ∷ rows) = first rows
+first (some r ∷ rows) = some r
+
+-- the first refusal in the one ordered table, if there is one
+abbrev pub refusal-of : {N : Numbers} → Call N → Machine N → Option Refusal
+refusal-of c M = first (refusals (asked c (M .state)) M)
+
+-- a refusal leaves the machine as it was; otherwise the call does what it does
+abbrev pub unless : {N : Numbers} → Option Refusal → Machine N → Answer N × Machine N → Answer N × Machine N
+unless none M otherwise = otherwise
+unless (some r) M otherwise = (refused r, M)
 
 -- ---- one call, and a list of them
 
@@ -204,7 +269,7 @@ carried (is-live x) M = (counted (cond (is-live-node M x) 1 0), M)
 carried (list bytes) M = (counted (length (listing M)), M)
 
 unfoldable pub step : {N : Numbers} → Call N → Machine N → Answer N × Machine N
-step c M = unless (refusals (asked c (M .state)) M) M (carried c M)
+step c M = unless (refusal-of c M) M (carried c M)
 
 abbrev pub run : {N : Numbers} → List (Call N) → Machine N → List (Answer N) × Machine N
 run [] M = ([], M)

@@ -1,6 +1,6 @@
 // The tape: its small state, handles to its nodes, refusals, and what every call tests of the arrays it is lent.
 //
-// specs/ hold document 01's machine. A call on the tape, here and in the crates above, is one step of it; `Handle::lookup` and `Tape::admits` are what such calls are made of.
+// specs/ hold document 01's machine. A call on the tape, here and in the crates above, is one step of it; `Handle::lookup` and `Tape::admit` are what such calls are made of.
 pub mod errors;
 pub mod node;
 pub mod state;
@@ -11,5 +11,9 @@ pub use node::Lookup;
 pub use node::MOST_EDGES;
 pub use node::MOST_NODES;
 pub use node::Operand;
+pub use node::Usable;
+pub use state::Admission;
+pub use state::Caller;
+pub use state::Lengths;
 pub use state::Moved;
 pub use state::Tape;

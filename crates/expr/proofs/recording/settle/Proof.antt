@@ -16,7 +16,7 @@ returns-3 : tie.Need-returns-3
 returns-3 c = rw (not-false (c .before .before .before .before .before .before .before .before .before .before .before .before .args .tape .active) (c .before .before .before .before .if1 .left), ne-eqb _ _ (c .before .before .if2 .left), eq-eqb _ _ (c .if3 .taken))
 
 keep-requires : tie.Need-keep-requires
-keep-requires c κs = (search needs, room (c .before .before .before .before .before .before .before .before .before .before .before .before .before .before .before .before .before .before .args .tape) _ (c .before .before .before .before .before .before .before .before .before .before .before .before .before .before .before .before .before .before .pre) (c .before .before .before .before .before .before .before .before .if2 .left))
+keep-requires c κs = (c .before .before .before .before .before .before .before .before .before .before .before .before .before .before .before .before .before .before .pre .0, search needs, room (c .before .before .before .before .before .before .before .before .before .before .before .before .before .before .before .before .before .before .args .tape) _ (c .before .before .before .before .before .before .before .before .before .before .before .before .before .before .before .before .before .before .pre .1) (c .before .before .before .before .before .before .before .before .if2 .left))
 
 returns-4 : tie.Need-returns-4
 returns-4 c = c .before .before .before .before .before .before .before .before .before .before .before .before .keep .ensures ∙ rw (not-false (c .before .before .before .before .before .before .before .before .before .before .before .before .before .before .before .before .before .before .before .before .before .before .before .before .before .before .before .before .before .before .before .args .tape .active) (c .before .before .before .before .before .before .before .before .before .before .before .before .before .before .before .before .before .before .before .before .before .before .before .if1 .left), ne-eqb _ _ (c .before .before .before .before .before .before .before .before .before .before .before .before .before .before .before .before .before .before .before .before .before .if2 .left), ne-eqb _ _ (c .before .before .before .before .before .before .before .before .before .before .before .before .before .before .before .before .before .before .before .if3 .left))

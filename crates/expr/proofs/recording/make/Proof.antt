@@ -1,0 +1,34 @@
+-- Row by row.
+use Prim.Native.Nat.{_≤_, _<_}
+use native.Mathlib.Omega.{arith}
+use mathlib.Core.Path.{refl, sym, ap, _∙_}
+use mathlib.Core.List.{_++_}
+use denote.Ref.{now}
+use Rattle.expr.specs.Inner.{usable-operand, refusal-in}
+use Rattle.expr.proofs.Decisions.{refused-so, with-row, with-refusal, small-so, both-live}
+use borrow.Author.Needs.{needs}
+use Rattle.expr.proofs.recording.make.Statement.{statement}
+use Rattle.expr.proofs.recording.make.Tie as tie
+
+pub make-spec : {M : Type 1} → statement M
+make-spec =
+    tie.close
+    (tie.spec
+    (λ c. search needs)
+    (λ _ _. tt)
+    (λ c. search needs)
+    (λ _ _. tt)
+    (λ _ _. tt)
+    (λ c. search needs)
+    (λ _ _. tt)
+    (λ c κs e. let k = c .before .before .before .before .before in small-so (k .args .tape) (now (k .args .serial)) (k .args .left) (k .pre) (sym (c .usable2 .ensures) ∙ e))
+    (λ c. search needs)
+    (λ _ _. tt)
+    (λ c κs e.
+    let k = c .before .before .before .before .before in
+    let both = both-live (usable-operand (k .args .tape) (now (k .args .serial)) (k .args .left)) (usable-operand (k .args .tape) (now (k .args .serial)) (k .args .right)) (sym (c .usable-both .ensures) ∙ e) in
+    (small-so (k .args .tape) (now (k .args .serial)) (k .args .left) (k .pre) (both .0), small-so (k .args .tape) (now (k .args .serial)) (k .args .right) (k .pre) (both .1)))
+    (λ c. let a = c .before .before .before .before .args in with-row _ _ _ (usable-operand (a .tape) (now (a .serial)) (a .left)) (usable-operand (a .tape) (now (a .serial)) (a .right)) (a .left) (a .right) (c .before .enum-told .given .1) (refused-so _ _ _ (a .left) (a .right) (c .refused .ensures)))
+    (λ c. let a = c .before .before .before .before .before .before .args in with-row _ _ _ (usable-operand (a .tape) (now (a .serial)) (a .left)) (usable-operand (a .tape) (now (a .serial)) (a .right)) (a .left) (a .right) (c .before .before .before .row .given .1) (with-refusal _ _ _ _ (a .left) (a .right) (ap refusal-in (c .before .usable .ensures)) (c .make-leaf .ensures (a .left) (a .right))))
+    (λ c. let a = c .before .before .before .before .before .before .args in with-row _ _ _ (usable-operand (a .tape) (now (a .serial)) (a .left)) (usable-operand (a .tape) (now (a .serial)) (a .right)) (a .left) (a .right) (c .before .before .before .row2 .given .1) (with-refusal _ _ _ _ (a .left) (a .right) (ap refusal-in (c .before .usable2 .ensures)) (c .make-one .ensures (a .right))))
+    (λ c. let a = c .before .before .before .before .before .before .args in with-row _ _ _ (usable-operand (a .tape) (now (a .serial)) (a .left)) (usable-operand (a .tape) (now (a .serial)) (a .right)) (a .left) (a .right) (c .before .before .before .row3 .given .1) (with-refusal _ _ _ _ (a .left) (a .right) (ap refusal-in (c .before .usable-both .ensures)) (c .make-two .ensures))))
