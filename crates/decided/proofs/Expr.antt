@@ -16,14 +16,5 @@ pub expr : Expr
 expr = record {
   new-leaf = record { same = told-with told (six-arrays _) _ _ };
   put-on-tape = record { same = told-with told (six-arrays _) _ _ };
-  add = record { same = told-with told (six-arrays _) _ _ };
-  sub = record { same = told-with told (six-arrays _) _ _ };
-  mul = record { same = told-with told (six-arrays _) _ _ };
-  div = record { same = told-with told (six-arrays _) _ _ };
-  max = record { same = told-with told (six-arrays _) _ _ };
-  min = record { same = told-with told (six-arrays _) _ _ };
-  neg = record { same = told-with told (six-arrays _) _ _ };
-  supplied-one = record { same = told-with told (six-arrays _) _ _ };
-  supplied-two = record { same = told-with told (six-arrays _) _ _ };
   «record» = record { same = told-with told (six-arrays _) _ _ };
 }

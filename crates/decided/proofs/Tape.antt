@@ -1,4 +1,4 @@
--- A lookup and what fits are given by their rules; a move answers the machine's step whatever arrays the caller keeps, so beside empty ones.
+-- A lookup and the admission are given by their rules; a move answers the machine's step whatever arrays the caller keeps, so beside empty ones.
 use mathlib.Core.Path.{_≡_}
 use mathlib.Core.List.{[]}
 use Rattle.tape.specs.Numbers.{floats}
@@ -17,6 +17,8 @@ pub tape : Tape
 tape = record {
   number = record { same = equal };
   lookup = record { same = equal };
+  usable = record { same = equal };
+  lengths-of = record { same = equal };
   new = record { same = equal };
   start-recording = record { same = moved };
   stop-recording = record { same = moved };
@@ -24,5 +26,5 @@ tape = record {
   reset-mark = record { same = moved };
   rewind-to-mark = record { same = moved };
   rewind-to-init = record { same = moved };
-  admits = record { same = equal };
+  admit = record { same = equal };
 }

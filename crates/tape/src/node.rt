@@ -34,6 +34,12 @@ pub enum Usable {
 }
 
 impl Handle {
+    // A handle that is never live: no node has serial 0.
+    pub const NEVER_LIVE: Handle = Handle {
+        index: 0,
+        serial: 0,
+    };
+
     // Whether the handle is live on a tape with these serials.
     pub fn lookup(self, tape: Tape, serial: &[u64]) -> Lookup
         ensures { λ x. ⌜ x ≡ looked-up tape (now (serial .entry)) self ⌝ }
