@@ -2,8 +2,8 @@
 use Rattle.decided.specs.Decided.{Decided}
 use Rattle.tape.proofs.errors.Refusal as refusal
 use Rattle.tape.proofs.node.Handle as handle
-use Rattle.tape.proofs.state.Lengths as lengths
-use Rattle.tape.proofs.state.Tape as tape
+use Rattle.tape.proofs.admission.Lengths as lengths
+use Rattle.tape.proofs.tape.Tape as tape
 
 pub record Tape : Type 0 where
   pub number : Decided refusal.number.ended refusal.number.Reads.Learnt

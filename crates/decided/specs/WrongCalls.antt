@@ -7,13 +7,16 @@ use mathlib.Core.Option.{Option, none, some}
 use lib.Ieee.{Float, nan, binary64, div, neg as minus}
 use lib.ListN.{set, take, replicate}
 use Rattle.tape.specs.Numbers.{floats}
-use Rattle.tape.specs.Machine.{Arrays, Machine, arrays, machine, new-tape, lengths}
+use Rattle.tape.specs.Machine.{Arrays, Machine, arrays, machine, new-tape}
 use Rattle.tape.specs.Handles.{Operand, plain, node, looked-up, usable-as}
 use Rattle.tape.specs.Operations.{ADD, SUBTRACT, MULTIPLY, DIVIDE, MAX, MIN, NEGATE, SUPPLIED-ONE, SUPPLIED-TWO}
 use Rattle.tape.specs.Walk.{Edge}
 use Rattle.tape.specs.Listing.{listing}
-use Rattle.tape.specs.Answers.{Answer, number, refused, done, told, recorded, counted, admitted}
-use Rattle.tape.specs.Calls.{Call, Move, start, stop, set-mark, reset-mark, rewind-to-mark, rewind-to-init, move, operate, clear, pass, backward, backward-to-mark, backward-mark-to-start, propagate-to-mark, propagate-mark-to-start, value-of, adjoint-of, is-live, list, issued, written, with-adjoints, last-serial, let-in, step}
+use Rattle.tape.specs.Answers.{Answer, number, refused, done, read-value, recorded, counted}
+use Rattle.tape.specs.Calls.{Call, Move, start, stop, set-mark, reset-mark, rewind-to-mark, rewind-to-init, move, operate, clear, pass, backward, backward-to-mark, backward-mark-to-start, propagate-to-mark, propagate-mark-to-start, value-of, adjoint-of, is-live, list, issued, written, with-adjoints}
+use Rattle.tape.specs.Admission.{lengths, admitted, let-in}
+use Rattle.tape.specs.Refusals.{last-serial}
+use Rattle.tape.specs.Steps.{step}
 use Rattle.tape.specs.Kept.{fresh, after}
 use Rattle.tape.specs.Rows.{float, sevens, handle, node-at, given, leaf, binary, four-calls}
 use Rattle.tape.specs.declared.errors.Refusal.the-variants.{Misshapen, UnknownOperation, NotLive as Refusal·NotLive, Detached, Full, SerialsSpent, ListingTooLong}
@@ -22,11 +25,11 @@ use Rattle.tape.specs.declared.node.Lookup.{Lookup}
 use Rattle.tape.specs.declared.node.Lookup.the-variants.{Live, NotLive}
 use Rattle.tape.specs.declared.node.Usable.{Usable}
 use Rattle.tape.specs.declared.node.Usable.the-variants as usable
-use Rattle.tape.specs.declared.state.Admission.{Admission}
-use Rattle.tape.specs.declared.state.Admission.the-variants as admission
-use Rattle.tape.specs.declared.state.Caller.the-variants as caller
-use Rattle.tape.specs.declared.state.Lengths.{Lengths}
-use Rattle.tape.specs.declared.state.Tape.{Tape}
+use Rattle.tape.specs.declared.admission.Admission.{Admission}
+use Rattle.tape.specs.declared.admission.Admission.the-variants as admission
+use Rattle.tape.specs.declared.admission.Caller.the-variants as caller
+use Rattle.tape.specs.declared.admission.Lengths.{Lengths}
+use Rattle.tape.specs.declared.tape.Tape.{Tape}
 use Rattle.expr.specs.Operators.{unused}
 use Rattle.expr.specs.Operators as expr
 use Rattle.listing.specs.Outcome.{listed}
@@ -291,12 +294,12 @@ supplied-two-tried = a-step (step (operate SUPPLIED-TWO x0 x1 (given (float 9) (
 -- value: a number refused 4; the value behind a handle that is not live
 abbrev pub value-tried : List Tried
 value-tried = a-step (step (value-of (plain (float 5))) (marked 2)) (refused Detached, marked 2)
-    ∷ a-step (step (value-of stale) (marked 2)) (told (float 2), marked 2) ∷ []
+    ∷ a-step (step (value-of stale) (marked 2)) (read-value (float 2), marked 2) ∷ []
 
 -- adjoint: a handle that is not live refused 4; 0.0 for a number, which is refused
 abbrev pub adjoint-tried : List Tried
 adjoint-tried = a-step (step (adjoint-of stale) (marked 2)) (refused Detached, marked 2)
-    ∷ a-step (step (adjoint-of (plain (float 5))) (marked 2)) (told nought, marked 2) ∷ []
+    ∷ a-step (step (adjoint-of (plain (float 5))) (marked 2)) (read-value nought, marked 2) ∷ []
 
 -- is_live: a refusal for a handle that is not live; a number that is live
 abbrev pub is-live-tried : List Tried

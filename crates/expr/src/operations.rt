@@ -2,7 +2,7 @@
 ghost use mathlib.Core.Path.{_≡_};
 ghost use mathlib.Core.Bool.{cond};
 ghost use Rattle.tape.specs.Operations.{known, apply};
-ghost use Rattle.expr.specs.Inner.{told-row};
+ghost use Rattle.expr.specs.Inner.{row-in};
 ghost use Rattle.expr.specs.Outcome.{given};
 
 // The operations' numbers, in the table's order.
@@ -52,7 +52,7 @@ pub(crate) enum Row {
 
 // The row of operation op for operands worth l and r.
 pub(crate) fn apply(op: u8, l: f64, r: f64, supplied: Supplied) -> Row
-    ensures { λ x. ⌜ told-row x ≡ (known op, apply op l r (given supplied)) ⌝ }
+    ensures { λ x. ⌜ row-in x ≡ (known op, apply op l r (given supplied)) ⌝ }
 {
     match op {
         LEAF => Row::Leaf(l),

@@ -7,7 +7,7 @@ use tape::Tape;
 ghost use mathlib.Core.Path.{_≡_};
 ghost use Rattle.tape.specs.Machine.{lent-before, lent-after, machine};
 ghost use Rattle.tape.specs.Handles.{operand};
-ghost use Rattle.tape.specs.Calls.{step};
+ghost use Rattle.tape.specs.Steps.{step};
 ghost use Rattle.expr.specs.Outcome.{outcome};
 ghost use Rattle.expr.specs.Operators.{new-leaf, put-on-tape};
 

@@ -9,7 +9,7 @@ use Rattle.tape.specs.Numbers.{floats}
 use Rattle.tape.specs.Machine.{Arrays, machine}
 use Rattle.tape.specs.Walk.{indexes}
 use Rattle.tape.specs.Listing.{decimal, header, line, lines, listing}
-use Rattle.tape.specs.declared.state.Tape.{Tape}
+use Rattle.tape.specs.declared.tape.Tape.{Tape}
 use Rattle.tape.proofs.Ranges.{nothing-left, indexes-first}
 use Rattle.listing.specs.Inner.{shown}
 use Rattle.listing.proofs.Numerals.{length-hex, beyond, longer, index-length}

@@ -9,7 +9,7 @@ use lib.ListN.{getD}
 use Rattle.tape.specs.Numbers.{Numbers}
 use Rattle.tape.specs.Machine.{Arrays, Machine}
 use Rattle.tape.specs.Walk.{indexes}
-use Rattle.tape.specs.declared.state.Tape.{Tape}
+use Rattle.tape.specs.declared.tape.Tape.{Tape}
 
 -- the bytes of a text in ASCII
 abbrev pub bytes : String → List ℕ

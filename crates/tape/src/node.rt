@@ -1,6 +1,6 @@
 // Handles to nodes, and what a caller carries in place of the Rust's Dual: a plain number or a handle.
 use crate::errors::Refusal;
-use crate::state::Tape;
+use crate::tape::Tape;
 ghost use mathlib.Core.Path.{_≡_};
 ghost use Rattle.tape.specs.Handles.{lives, looked-up, usable-as};
 

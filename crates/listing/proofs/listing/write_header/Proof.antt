@@ -8,7 +8,7 @@ use mir.Val.{boolByte}
 use borrow.Author.Needs.{needs}
 use lib.ListN.{length}
 use Rattle.tape.specs.Listing.{bytes, decimal, header}
-use Rattle.tape.specs.declared.state.Tape.{Tape}
+use Rattle.tape.specs.declared.tape.Tape.{Tape}
 use Rattle.listing.specs.Inner.{Wrote}
 use Rattle.listing.proofs.Lines.{header-length}
 use Rattle.listing.proofs.Stores.{then, then-two}
