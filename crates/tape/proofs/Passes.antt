@@ -143,7 +143,8 @@ both-ranges = record {
 
 -- ---- sound tapes
 
-ends : {N : Numbers} (p : Pass N) (M : Machine N) → Fit M → first-amiss M (handles (plan p (M .state) .root)) ≡ none → plan p (M .state) .end ≤ M .state .length
+-- what a pass walks ends at or below the length
+pub ends : {N : Numbers} (p : Pass N) (M : Machine N) → Fit M → first-amiss M (handles (plan p (M .state) .root)) ≡ none → plan p (M .state) .end ≤ M .state .length
 ends (backward (plain x)) M f all-live = omega arith
 ends (backward (node h)) M f all-live = let l = first-live M h [] all-live .0 in omega arith
 ends (backward-to-mark x) M f all-live = omega arith
