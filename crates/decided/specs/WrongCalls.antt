@@ -7,7 +7,7 @@ use mathlib.Core.Option.{Option, none, some}
 use lib.Ieee.{Float, nan, binary64, div, neg as minus}
 use lib.ListN.{set, take, replicate}
 use Rattle.tape.specs.Numbers.{floats}
-use Rattle.tape.specs.Machine.{Arrays, Machine, arrays, machine, new-tape}
+use Rattle.tape.specs.Machine.{Arrays, Machine, arrays, machine, new-tape, state}
 use Rattle.tape.specs.Handles.{Operand, plain, node, looked-up, usable-as}
 use Rattle.tape.specs.Operations.{ADD, SUBTRACT, MULTIPLY, DIVIDE, MAX, MIN, NEGATE, SUPPLIED-ONE, SUPPLIED-TWO}
 use Rattle.tape.specs.Walk.{Edge}
@@ -95,9 +95,6 @@ one = floats .one
 
 abbrev pub over : ℕ → ℕ → Float
 over a b = div binary64 (float a) (float b)
-
-abbrev pub state : ℕ → ℕ → Bool → ℕ → Tape
-state length mark active next = record { length = length; mark = mark; active = active; next = next }
 
 -- a tape of four nodes' room, 9 the next serial
 abbrev pub kept : ℕ → ℕ → Bool → Machine floats

@@ -1,4 +1,6 @@
--- Demand 1: every call, on any machine, ends in an answer or in one refusal of document 01's list. Each public call on a tape is a `step` of this machine, by its promise; what a listing leaves in its bytes is in crates/listing/specs/Outcome.antt.
+-- Demand 1: every call, on any machine, ends in an answer or in one refusal of document 01's list. Each public call on a tape is a `step` of this machine, by its promise;
+-- what a listing leaves in its bytes is in crates/listing/specs/Outcome.antt.
+-- `Handle::lookup`, `Handle::usable`, `Tape::admit` and `Lengths::of` are public and no steps: calls are made of them, and their promises name their rules.
 use Prim.Native.Nat.{ℕ}
 use mathlib.Core.Path.{_≡_}
 use mathlib.Core.Bool.{Bool, true, false, _||_}
@@ -17,6 +19,10 @@ abbrev pub among : ℕ → List ℕ → Bool
 among k [] = false
 among k (n ∷ ns) = eqb n k || among k ns
 
+-- document 01's list of refusals
+abbrev pub listed : List ℕ
+listed = 1 ∷ 2 ∷ 3 ∷ 4 ∷ 5 ∷ 6 ∷ 7 ∷ 8 ∷ []
+
 -- Proved in proofs/Answered.antt
 pub record Demand1 : Type 1 where
   -- if a row of the table refuses, the first one's number is returned, value +0.0, no handle and count 0, and the machine is as it was
@@ -26,4 +32,4 @@ pub record Demand1 : Type 1 where
   -- so a number is returned exactly then
   pub exactly-then : {N : Numbers} (c : Call N) (M : Machine N) (r : Refusal) → step c M .0 .number ≡ number r → refusal-of c M ≡ some r
   -- and it is one of the list
-  pub listed : (r : Refusal) → among (number r) (1 ∷ 2 ∷ 3 ∷ 4 ∷ 5 ∷ 6 ∷ 7 ∷ 8 ∷ []) ≡ true
+  pub listed : {N : Numbers} (c : Call N) (M : Machine N) (r : Refusal) → refusal-of c M ≡ some r → among (number r) listed ≡ true

@@ -62,7 +62,7 @@ module _ {N : Numbers} where
 -- ---- the node that is answered
 
 answered : {N : Numbers} {M : Machine N} {x : Answer N × Machine N} (h : Handle) → Effect M x → x .0 .handle ≡ some h → (live (x .1) h ≡ true) × (operand-value (x .1) (node h) ≡ x .0 .value)
-answered h (keeps l) e = let f : _≡_ {A = ℕ} 0 1 = cc in absurd (omega arith)
+answered h (keeps l _) e = let f : _≡_ {A = ℕ} 0 1 = cc in absurd (omega arith)
 answered {N} {M} h (records v es r s) e =
     subst
     (λ h. (live (written M v es) h ≡ true) × (operand-value (written M v es) (node h) ≡ v))
@@ -78,7 +78,7 @@ abbrev pub SoundNodes : {N : Numbers} → Machine N → Type 0
 SoundNodes M = (i : ℕ) → i < M .state .length → sound (M .lent) i ≡ true
 
 pub sound-kept : {N : Numbers} (M : Machine N) (x : Answer N × Machine N) → Effect M x → SoundNodes M → SoundNodes (x .1)
-sound-kept M _ (keeps l) is = λ i h. is i (omega arith)
+sound-kept M _ (keeps l _) is = λ i h. is i (omega arith)
 sound-kept M _ (records v es r s) is =
     let n = M .state .length in
     let A = M .lent in

@@ -9,7 +9,7 @@ use lib.IntN.{pos}
 use lib.Ieee.{Float, nan, inf, binary64, ofInt, neg}
 use lib.ListN.{replicate}
 use Rattle.tape.specs.Numbers.{floats}
-use Rattle.tape.specs.Machine.{Arrays, Machine, arrays, machine, slot}
+use Rattle.tape.specs.Machine.{Arrays, Machine, arrays, machine, most-nodes, slot, state}
 use Rattle.tape.specs.Handles.{Operand, plain, node}
 use Rattle.tape.specs.Operations.{Given}
 use Rattle.tape.specs.Listing.{bytes, decimal, hex, header, listing}
@@ -245,7 +245,7 @@ plain-numbers =
 -- a node that is its own child is refused 7 before the root's adjoint is set; a walk that does not reach it is not
 abbrev pub own-child : Row
 own-child = record {
-  before = machine (record { length = 3; mark = 1; active = false; next = 8 }) (arrays (replicate 3 (float 7)) (replicate 3 (float 7)) (7 ∷ 7 ∷ 7 ∷ []) (0 ∷ 1 ∷ 1 ∷ []) (replicate 4 1 ++ (0 ∷ 7 ∷ [])) (replicate 6 (float 1)));
+  before = machine (state 3 1 false 8) (arrays (replicate 3 (float 7)) (replicate 3 (float 7)) (7 ∷ 7 ∷ 7 ∷ []) (0 ∷ 1 ∷ 1 ∷ []) (replicate 4 1 ++ (0 ∷ 7 ∷ [])) (replicate 6 (float 1)));
   calls = pass (backward (node (handle 2 7))) ∷ pass (backward-to-mark (node (handle 0 7))) ∷ pass propagate-to-mark ∷ pass (backward-mark-to-start (node (handle 2 7))) ∷ [];
   answers = refused UnsoundEdge ∷ refused UnsoundEdge ∷ refused UnsoundEdge ∷ counted 0 ∷ [];
   sights = adjoints (float 7 ∷ float 7 ∷ float 1 ∷ []) ∷ [];
@@ -254,7 +254,7 @@ own-child = record {
 -- three edges are refused 7, after 3 and 4 for the root, and not where the walk does not reach them
 abbrev pub three-edges : Row
 three-edges = record {
-  before = machine (record { length = 2; mark = 0; active = false; next = 8 }) (arrays (replicate 2 (float 7)) (replicate 2 (float 7)) (7 ∷ 7 ∷ []) (0 ∷ 3 ∷ []) (replicate 4 0) (replicate 4 (float 1)));
+  before = machine (state 2 0 false 8) (arrays (replicate 2 (float 7)) (replicate 2 (float 7)) (7 ∷ 7 ∷ []) (0 ∷ 3 ∷ []) (replicate 4 0) (replicate 4 (float 1)));
   calls = pass (backward (node (handle 1 7))) ∷ pass (backward (node (handle 1 6))) ∷ pass (backward (plain (float 1))) ∷ pass (backward (node (handle 0 7))) ∷ [];
   answers = refused UnsoundEdge ∷ refused NotLive ∷ refused Detached ∷ counted 0 ∷ [];
   sights = adjoints (float 1 ∷ float 7 ∷ []) ∷ [];
@@ -263,7 +263,7 @@ three-edges = record {
 -- a mark over the length: every call is refused 1, before anything else
 abbrev pub mark-over-length : Row
 mark-over-length = record {
-  before = machine (record { length = 1; mark = 2; active = true; next = 8 }) (sevens 2);
+  before = machine (state 1 2 true 8) (sevens 2);
   calls = move start ∷ times (node-at 0) (node-at 0) ∷ clear ∷ pass (backward (node-at 0)) ∷ pass propagate-to-mark ∷ value-of (node-at 0) ∷ adjoint-of (plain (float 1)) ∷ is-live (node-at 0) ∷ list 0 ∷ [];
   answers = replicate 9 (refused Misshapen);
   sights = adjoints (float 7 ∷ float 7 ∷ []) ∷ [];
@@ -303,7 +303,7 @@ EveryRow = All rows
 -- the listing's numbers, where a line of the rows has too few digits to tell. Proved in proofs/Rows.antt
 abbrev pub EveryText : Type 0
 EveryText =
-    (header (record { length = 65535; mark = 10; active = false; next = 1 }) ≡ bytes "nodes=65535 mark=10 active=0\n")
+    (header (state most-nodes 10 false 1) ≡ bytes "nodes=65535 mark=10 active=0\n")
     × (decimal 0 ≡ bytes "0")
     × (decimal 100 ≡ bytes "100")
     × (decimal 18446744073709551615 ≡ bytes "18446744073709551615")

@@ -1,7 +1,6 @@
 -- The root's case.
 use Prim.Native.Nat.{_<_}
 use mathlib.Core.Path.{subst}
-use native.Mathlib.Omega.{arith}
 use lib.ListN.{length}
 use denote.Ref.{now}
 use Rattle.dual.specs.Inner.{Below}
