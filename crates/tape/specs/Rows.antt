@@ -11,7 +11,7 @@ use lib.ListN.{replicate}
 use Rattle.tape.specs.Numbers.{floats}
 use Rattle.tape.specs.Machine.{Arrays, Machine, arrays, machine, most-nodes, slot, state}
 use Rattle.tape.specs.Handles.{Operand, plain, node}
-use Rattle.tape.specs.Operations.{Given}
+use Rattle.tape.specs.Operations.{Given, LEAF, ADD, MULTIPLY, MAX, MIN, SUPPLIED-ONE, SUPPLIED-TWO}
 use Rattle.tape.specs.Listing.{bytes, decimal, hex, header, listing}
 use Rattle.tape.specs.Answers.{Answer, refused, done, read-value, recorded, counted}
 use Rattle.tape.specs.Calls.{Pass, Call, move, start, set-mark, rewind-to-mark, operate, clear, pass, backward, backward-to-mark, backward-mark-to-start, propagate-to-mark, propagate-mark-to-start, value-of, adjoint-of, is-live, list}
@@ -75,27 +75,27 @@ abbrev pub given : Float → Float → Float → Given floats
 given v p q = record { value = v; left = p; right = q }
 
 abbrev pub leaf : Float → Call floats
-leaf x = operate 0 (plain x) (plain x) (given x x x)
+leaf x = operate LEAF (plain x) (plain x) (given x x x)
 
 abbrev pub binary : ℕ → Operand floats → Operand floats → Call floats
 binary op left right = operate op left right (given (float 0) (float 0) (float 0))
 
 abbrev pub plus : Operand floats → Operand floats → Call floats
-plus = binary 1
+plus = binary ADD
 
 abbrev pub times : Operand floats → Operand floats → Call floats
-times = binary 3
+times = binary MULTIPLY
 
 abbrev pub max : Operand floats → Operand floats → Call floats
-max = binary 5
+max = binary MAX
 
 -- operation 8 with partial p
 abbrev pub weighed : Operand floats → Float → Call floats
-weighed x p = operate 8 x x (given (float 1) p p)
+weighed x p = operate SUPPLIED-ONE x x (given (float 1) p p)
 
 -- operation 9 with partials p and q
 abbrev pub weighed-twice : Operand floats → Operand floats → Float → Float → Call floats
-weighed-twice left right p q = operate 9 left right (given (float 1) p q)
+weighed-twice left right p q = operate SUPPLIED-TWO left right (given (float 1) p q)
 
 -- ---- the rows
 
@@ -299,6 +299,23 @@ rows =
 
 abbrev pub EveryRow : Type 0
 EveryRow = All rows
+
+-- max and min of leaves l and r, of value v: neither is the greater, so both partials are 0
+abbrev pub chosen : ℕ → Float → Float → Float → Row
+chosen op l r v = record {
+  before = fresh (sevens 3);
+  calls = move start ∷ leaf l ∷ leaf r ∷ binary op (node-at 0) (node-at 1) ∷ [];
+  answers = done ∷ recorded l (first 0) ∷ recorded r (first 1) ∷ recorded v (first 2) ∷ [];
+  sights = partials (float 7 ∷ float 7 ∷ float 7 ∷ float 7 ∷ float 0 ∷ float 0 ∷ []) ∷ [];
+}
+
+-- where the Rust departs from the table, so that no run beside it compares the value: zeros of unlike sign, and a NaN on the right. Proved in proofs/Rows.antt
+abbrev pub EveryChoice : Type 0
+EveryChoice =
+    Holds (chosen MAX (neg (float 0)) (float 0) (neg (float 0)))
+    × Holds (chosen MIN (float 0) (neg (float 0)) (float 0))
+    × Holds (chosen MAX (float 1) nan nan)
+    × Holds (chosen MIN (float 1) nan nan)
 
 -- the listing's numbers, where a line of the rows has too few digits to tell. Proved in proofs/Rows.antt
 abbrev pub EveryText : Type 0
