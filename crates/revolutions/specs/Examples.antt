@@ -71,7 +71,7 @@ in-recording-order resolved = long-tape (record { model = resolved .model; revol
 
 -- adjoints that no walk changes
 abbrev pub idle : ResolvedSession floats → List Float
-idle resolve-operand = replicate 2 (float 0)
+idle resolved = replicate 2 (float 0)
 
 -- ---- what is proved
 

@@ -11,7 +11,7 @@ use lib.Dec.{ltb}
 use lib.ListN.{length, getD, set, length-map}
 use lib.Seq.{getD-set-other}
 use Rattle.tape.specs.Numbers.{Numbers}
-use Rattle.tape.specs.Machine.{Arrays, Machine, machine, slot, all}
+use Rattle.tape.specs.Machine.{Arrays, Machine, machine, slot, all, most-nodes}
 use Rattle.tape.specs.Handles.{plain, node, handles}
 use Rattle.tape.specs.Walk.{Edge, push, walk, edges-from, edges-at, indexes, sum, visited, sound}
 use Rattle.tape.specs.Answers.{Answer, number, done, counted}
@@ -108,7 +108,7 @@ reset M = machine (moved reset-mark (M .state)) (M .lent)
 module _ {N : Numbers} (M : Machine N) (f : Fit M) where
   resets : step (move reset-mark) M ≡ (done, reset M)
   unfolding step
-  resets = rw (state-fit-so 65535 (M .state) (record { length = omega arith; mark = omega arith; next = f .state .next }))
+  resets = rw (state-fit-so most-nodes (M .state) (record { length = omega arith; mark = omega arith; next = f .state .next }))
 
   walks-whole : all (map (sound (M .lent)) (indexes 0 (M .state .length - 0))) ≡ true → step (pass propagate-to-mark) (reset M) ≡ carried (pass propagate-to-mark) (reset M)
   unfolding step

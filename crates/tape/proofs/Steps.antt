@@ -11,7 +11,7 @@ use borrow.Author.Tests.{ltb-true, eqb-true, eqb-false, lt-ltb, eq-eqb, ne-eqb, 
 use lib.Dec.{ltb, eqb}
 use lib.ListN.{length, getD}
 use Rattle.tape.specs.Numbers.{Numbers}
-use Rattle.tape.specs.Machine.{Machine, arrays, machine, capacity, all}
+use Rattle.tape.specs.Machine.{Machine, arrays, machine, capacity, all, most-nodes, most-edges}
 use Rattle.tape.specs.Handles.{Operand, plain, node, live, amiss, any-plain, operand-value, handles, lives}
 use Rattle.tape.specs.Operations.{Given, apply, one-sided}
 use Rattle.tape.specs.Walk.{Edge, sound}
@@ -217,7 +217,7 @@ module _ {N : Numbers} (M : Machine N) where
   no-partial (plain x) = refl
   no-partial (node h) = refl
 
-  pub both-ok : (b : Bool) (left right : Operand N) (p q : Option (N .Number)) → (b ≡ true → q ≡ none) → first-amiss M (handles (cond b (left ∷ []) (left ∷ right ∷ []))) ≡ none → Edges (M .state .length) 2 (edge left p ++ edge right q)
+  pub both-ok : (b : Bool) (left right : Operand N) (p q : Option (N .Number)) → (b ≡ true → q ≡ none) → first-amiss M (handles (cond b (left ∷ []) (left ∷ right ∷ []))) ≡ none → Edges (M .state .length) most-edges (edge left p ++ edge right q)
   both-ok true left right p q alone e = rw (alone refl, no-partial right) (edge-ok left p [] [] 1 e (λ _. no-edges 1))
   both-ok false left right p q alone e =
       edge-ok left p (right ∷ []) (edge right q) 1 e (λ e′. rw append-nil at (edge-ok right q [] [] 0 e′ (λ _. no-edges 0)))
@@ -237,7 +237,7 @@ alone op l r g = by-one-sided (λ op. apply op l r g .right ≡ none) op refl re
 pub data Effect {N : Numbers} (M : Machine N) : Answer N × Machine N → Type 0 where
   keeps : {number : ℕ} {value : N .Number} {count : ℕ} {t : Tape} {adjoint : List (N .Number)} → t .length ≤ M .state .length → t .next ≡ M .state .next
       → Effect M (answer number value none count, machine t (arrays (M .lent .value) adjoint (M .lent .serial) (M .lent .count) (M .lent .child) (M .lent .partial)))
-  records : (v : N .Number) (es : List (Edge N)) → Ready M → Edges (M .state .length) 2 es → Effect M (recorded v (issued (M .state)), written M v es)
+  records : (v : N .Number) (es : List (Edge N)) → Ready M → Edges (M .state .length) most-edges es → Effect M (recorded v (issued (M .state)), written M v es)
 
 move-effect : {N : Numbers} (m : Move) (M : Machine N) → M .state .mark ≤ M .state .length → Effect M (carried (move m) M)
 move-effect start M h = keeps zero-le refl
@@ -248,7 +248,7 @@ move-effect rewind-to-mark M h = keeps h refl
 move-effect rewind-to-init M h = keeps zero-le refl
 
 carried-effect : {N : Numbers} (c : Call N) (M : Machine N) → Passed c M → Effect M (carried c M)
-carried-effect (move m) M p = move-effect m M (state-fit 65535 (M .state) (rw (mover-unlent m) at (shape p)) .mark)
+carried-effect (move m) M p = move-effect m M (state-fit most-nodes (M .state) (rw (mover-unlent m) at (shape p)) .mark)
 carried-effect (operate op left right g) M p =
     let s = apply op (operand-value M left) (operand-value M right) g in
     by-test (Effect M) (M .state .active) (λ active. records (s .value) (edges left right s) (ready M (shape p) (rw active at (room p))) (both-ok M (one-sided op) left right (s .left) (s .right) (alone op (operand-value M left) (operand-value M right) g) (all-live p))) (λ _. keeps (le-refl _) refl)
