@@ -1,4 +1,4 @@
-// Two leaves, their product, a pass back and an adjoint; then a rewind, after which the product is refused: docs/CALLING.md.
+// Two leaves, their product, a pass back, an adjoint; then a rewind, and the product is refused (docs/CALLING.md).
 use dual::Passed;
 use dual::Read;
 use expr::MULTIPLY;
