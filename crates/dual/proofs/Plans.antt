@@ -1,4 +1,5 @@
--- What planning comes to: by the root that was found and the test of the range, the first refusal of the table or the plan.
+-- What planning comes to: by the root that was found and the test of the range, the first refusal of the table or the
+-- plan.
 use Prim.Native.Nat.{ℕ, _≤_}
 use native.Mathlib.Omega.{arith}
 use mathlib.Core.Path.{_≡_, refl, sym, ap, subst, _∙_}

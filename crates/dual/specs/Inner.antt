@@ -1,4 +1,5 @@
--- What the private functions promise: the rule as the code goes about it. Only their proofs use it; every public promise speaks of `step`.
+-- What the private functions promise: the rule as the code goes about it. Only their proofs use it; every public
+-- promise speaks of `step`.
 use Prim.Native.Nat.{ℕ, _+_, _-_, _≤_, _<_}
 use mathlib.Core.Path.{_≡_}
 use mathlib.Core.Bool.{Bool, true}
@@ -155,10 +156,12 @@ Below (root.the-variants.At h) adjoints = h .index < length adjoints
 -- a plan that can be carried out
 abbrev pub Ready : code-plan.Planned → List Float → List ℕ → List ℕ → List Float → Type 0
 Ready (code-plan.the-variants.Refused r) adjoints counts children partials = Unit {0}
-Ready (code-plan.the-variants.Walk root s) adjoints counts children partials = Below root adjoints × Walkable s adjoints counts children partials
+Ready (code-plan.the-variants.Walk root s) adjoints counts children partials =
+    Below root adjoints × Walkable s adjoints counts children partials
 
 abbrev pub walked-back : Span → List ℕ → List ℕ → List Float → List Float → List Float
-walked-back s counts children partials adjoints = walk (s .from) (map (edges-at (edge-arrays counts children partials)) (inside s)) adjoints
+walked-back s counts children partials adjoints =
+    walk (s .from) (map (edges-at (edge-arrays counts children partials)) (inside s)) adjoints
 
 abbrev pub visits : Span → List ℕ → ℕ
 visits s counts = visited {N = floats} (edge-arrays counts [] []) (inside s)

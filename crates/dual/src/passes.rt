@@ -50,7 +50,8 @@ pub fn backward(
     )
 }
 
-// Sets the root's adjoint to one and walks from the last node down to the mark, wherever the root lies. Refuses as `backward` does.
+// Sets the root's adjoint to one and walks from the last node down to the mark, wherever the root lies. Refuses as
+// `backward` does.
 pub fn backward_to_mark(
     tape: Tape,
     value: &[f64],
@@ -77,7 +78,8 @@ pub fn backward_to_mark(
     )
 }
 
-// Sets the root's adjoint to one and walks from the mark down to the first node, wherever the root lies. Refuses as `backward` does.
+// Sets the root's adjoint to one and walks from the mark down to the first node, wherever the root lies. Refuses as
+// `backward` does.
 pub fn backward_mark_to_start(
     tape: Tape,
     value: &[f64],

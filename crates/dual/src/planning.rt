@@ -191,7 +191,8 @@ fn is_sound_between(span: Span, count: &[u8], child: &[u16]) -> bool
     sound
 }
 
-// Whether a node has at most two edges, each to a node below it. Branch-free: the count is unpredictable, and every pass asks this of every node.
+// Whether a node has at most two edges, each to a node below it. Branch-free: the count is unpredictable, and every
+// pass asks this of every node.
 fn is_sound(i: usize, count: &[u8], child: &[u16]) -> bool
     requires { ⌜ EdgeRoom i (now count) (now child) ⌝ }
     ensures { λ x. ⌜ x ≡ sound-edges (now (count .entry)) (now (child .entry)) i ⌝ }

@@ -1,4 +1,5 @@
--- What the private functions of src/recording.rt promise: the rule as the code goes about it. Only their proofs use it; every public promise speaks of `step`.
+-- What the private functions of src/recording.rt promise: the rule as the code goes about it. Only their proofs use it;
+-- every public promise speaks of `step`.
 use Prim.Native.Nat.{ℕ, _+_, _≤_, _<_}
 use mathlib.Core.Path.{_≡_}
 use mathlib.Core.Bool.{Bool, true, false, cond}
@@ -80,7 +81,8 @@ row-of false s = code.Unknown
 row-of true s = row-by (s .value) (s .left) (s .right)
 
 abbrev pub row-for : List Float → ℕ → Operand → Operand → Supplied → Row
-row-for values op left right g = row-of (known op) (apply op (operand-value-in values left) (operand-value-in values right) (given g))
+row-for values op left right g =
+    row-of (known op) (apply op (operand-value-in values left) (operand-value-in values right) (given g))
 
 -- ---- the node that a row makes
 
@@ -110,7 +112,8 @@ pub record Decides (x : Decision) (o : Option Refusal) (s : Row) (left right : O
   pub few : x .edges .count ≤ most-edges
 
 abbrev pub recording-refusal : Tape → Lengths → List ℕ → Row → Operand → Operand → Option Refusal
-recording-refusal t n serials s left right = first (admission caller.Recording n t ∷ row-refusal s (usable-operand t serials left) (usable-operand t serials right) ∷ [])
+recording-refusal t n serials s left right =
+    first (admission caller.Recording n t ∷ row-refusal s (usable-operand t serials left) (usable-operand t serials right) ∷ [])
 
 -- ---- room, and the node's place
 

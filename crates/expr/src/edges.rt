@@ -58,7 +58,8 @@ impl Edges {
         }
     }
 
-    // Writes the edges from a slot on. There is no loop in it: one whose length is not known made a recording slower by a half.
+    // Writes the edges from a slot on. There is no loop in it: one whose length is not known made a recording slower by
+    // a half.
     pub(crate) fn write(self, slot: usize, child: &mut [u16], partial: &mut [f64])
         requires { ⌜ (self .count ≤ most-edges) × (slot + most-edges ≤ length (now child)) × (slot + most-edges ≤ length (now partial)) ⌝ }
         ensures { λ _. ⌜ now (child .exit) ≡ sets (now (child .entry)) slot (map (λ e. e .child) (edges-in self)) ⌝ }

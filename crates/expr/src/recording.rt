@@ -26,14 +26,16 @@ ghost use Rattle.tape.specs.Steps.{step};
 ghost use Rattle.expr.specs.Outcome.{given, outcome};
 ghost use Rattle.expr.specs.Inner.{Small, Room, Decides, recording-refusal, row-for, usable-operand, both-usable, operand-value-in, row-refusal, refusal-in, edges-in, appended, recorded-if-room};
 
-// What a recording answers: a value and its node's handle, or a value alone where the tape is inactive, with the state after it; or the refusal and the state as it was.
+// What a recording answers: a value and its node's handle, or a value alone where the tape is inactive, with the state
+// after it; or the refusal and the state as it was.
 pub enum Recorded {
     Node(f64, Handle, Tape),
     Detached(f64, Tape),
     Refused(Refusal, Tape),
 }
 
-// Records operation op on its operands. Refuses what does not fit (1), an unknown operation (2), an operand that is used and not live (3) and, while active, a full tape (5) or spent serials (6).
+// Records operation op on its operands. Refuses what does not fit (1), an unknown operation (2), an operand that is
+// used and not live (3) and, while active, a full tape (5) or spent serials (6).
 pub fn record(
     tape: Tape,
     value: &mut [f64],
@@ -76,7 +78,8 @@ pub fn record(
 // The last serial is never given out, so that the next one fits.
 const LAST_SERIAL: u64 = 18_446_744_073_709_551_615;
 
-// What the operation and its operands come to, before the tape is asked for room: granted, with the node's value and edges beside it, or refused.
+// What the operation and its operands come to, before the tape is asked for room: granted, with the node's value and
+// edges beside it, or refused.
 pub(crate) struct Decision {
     pub admission: Admission,
     pub value: f64,

@@ -1,4 +1,5 @@
--- What an active tape holds, as lists: the values, adjoints and edges of its nodes, and how each call that is not refused changes them. By the stores of `written`, which leave what is below the length.
+-- What an active tape holds, as lists: the values, adjoints and edges of its nodes, and how each call that is not
+-- refused changes them. By the stores of `written`, which leave what is below the length.
 use Prim.Native.Nat.{ℕ, zero, suc, _+_, _-_, _≤_, _<_}
 use native.Mathlib.Nat.{zero-add}
 use native.Mathlib.Numerals.{add-one}

@@ -62,7 +62,8 @@ length-cleared n x s h = simp (length-append, length-replicate, length-drop) (om
 
 -- ---- a machine in a session
 
--- On the lent arrays A: behind a model of m nodes, with serials from first on, stand j own nodes, with serials from k on.
+-- On the lent arrays A: behind a model of m nodes, with serials from first on, stand j own nodes, with serials from k
+-- on.
 -- While the model is recorded, its nodes are own nodes behind no model
 pub record Counted {N : Numbers} (A : Arrays N) (m first k j : ℕ) (L : Machine N) : Type 0 where
   pub alike : Alike A (L .lent)

@@ -1,5 +1,7 @@
-// What is recorded: operations 1 to 7 mixed, in blocks of 16 nodes behind 15 leaves. A block's last node adds what the block came to to the sum of those before it, so that the last adjoint
-// reaches every block. No operation makes a large number or a small one, and a block is short, so that nothing overflows on the way down.
+// What is recorded: operations 1 to 7 mixed, in blocks of 16 nodes behind 15 leaves. A block's last node adds what the
+// block came to to the sum of those before it, so that the last adjoint
+// reaches every block. No operation makes a large number or a small one, and a block is short, so that nothing
+// overflows on the way down.
 use expr::ADD;
 use expr::DIVIDE;
 use expr::LEAF;
@@ -198,7 +200,8 @@ fn moderate_between(node: Recording, i: usize, l: f64, r: f64) -> Recording
     moderate(node, l, r)
 }
 
-// Negation in place of an operation whose result would be large or small, or of a maximum or minimum of equals, whose partials are a matter of their own.
+// Negation in place of an operation whose result would be large or small, or of a maximum or minimum of equals, whose
+// partials are a matter of their own.
 fn moderate(node: Recording, l: f64, r: f64) -> Recording
     requires { ⌜ (node .left ≤ most-nodes) × (node .right ≤ most-nodes) ⌝ }
     ensures { λ x. ⌜ (x .left ≤ most-nodes) × (x .right ≤ most-nodes) ⌝ }

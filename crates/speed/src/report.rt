@@ -1,4 +1,5 @@
-// What a run comes to: how many edges its last walk visited, and a digest of the values and of the adjoints that it left.
+// What a run comes to: how many edges its last walk visited, and a digest of the values and of the adjoints that it
+// left.
 use crate::plan::Reach;
 use crate::plan::SEED;
 use crate::plan::next;

@@ -1,4 +1,5 @@
--- A call that is not refused does what `carried` says, a range that is cut in two is walked in two, and what a pass walks ends at or below the length.
+-- A call that is not refused does what `carried` says, a range that is cut in two is walked in two, and what a pass
+-- walks ends at or below the length.
 use Prim.Native.Nat.{ℕ, zero, suc, _+_, _-_, _≤_, _<_, zero-le}
 use native.Mathlib.Nat.{zero-add, add-zero, add-suc, suc-add, sub-self, add-sub-of-le}
 use native.Mathlib.Omega.{arith}

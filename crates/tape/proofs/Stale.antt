@@ -1,4 +1,5 @@
--- A handle that stopped being live has a serial that was given out, and what is recorded later gets another: by cases on what a step leaves.
+-- A handle that stopped being live has a serial that was given out, and what is recorded later gets another: by cases
+-- on what a step leaves.
 use Prim.Native.Nat.{ℕ, _+_, _<_}
 use native.Mathlib.Omega.{arith}
 use mathlib.Core.Path.{_≡_, refl, sym, _∙_}

@@ -232,7 +232,8 @@ alone op l r g = by-one-sided (λ op. apply op l r g .right ≡ none) op refl re
 
 -- ---- what a step leaves
 
--- Nothing but adjoints and the state, at no greater length, with the same serial next and no handle answered; or one node more.
+-- Nothing but adjoints and the state, at no greater length, with the same serial next and no handle answered; or one
+-- node more.
 -- A call that writes adjoints or nothing is the first of these, so all that is shown from this holds for it as well
 pub data Effect {N : Numbers} (M : Machine N) : Answer N × Machine N → Type 0 where
   keeps : {number : ℕ} {value : N .Number} {count : ℕ} {t : Tape} {adjoint : List (N .Number)} → t .length ≤ M .state .length → t .next ≡ M .state .next

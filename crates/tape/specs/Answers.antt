@@ -1,4 +1,5 @@
--- What a call returns, as document 01 has it: a number, a value, a handle and a count. Number 0 is an answer; the others are the refusals.
+-- What a call returns, as document 01 has it: a number, a value, a handle and a count. Number 0 is an answer; the
+-- others are the refusals.
 use Prim.Native.Nat.{ℕ}
 use mathlib.Core.Path.{_≡_}
 use mathlib.Core.Option.{Option, none, some}

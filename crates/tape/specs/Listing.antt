@@ -43,7 +43,8 @@ decimal n = digits 10 (places 19 n) n
 -- ---- the lines
 
 abbrev pub header : Tape → List ℕ
-header t = bytes "nodes=" ++ decimal (t .length) ++ bytes " mark=" ++ decimal (t .mark) ++ bytes " active=" ++ decimal (cond (t .active) 1 0) ++ bytes "\n"
+header t =
+    bytes "nodes=" ++ decimal (t .length) ++ bytes " mark=" ++ decimal (t .mark) ++ bytes " active=" ++ decimal (cond (t .active) 1 0) ++ bytes "\n"
 
 abbrev pub line : {N : Numbers} → Arrays N → ℕ → List ℕ
 line {N} A i =

@@ -1,4 +1,5 @@
--- Refusals that meet: for every two that one call can meet at once, a call that meets both, the refusal that it gets, and what the same call gets once the cause of that one is gone.
+-- Refusals that meet: for every two that one call can meet at once, a call that meets both, the refusal that it gets,
+-- and what the same call gets once the cause of that one is gone.
 -- They fix the order of the table, each row by computation. `Order` is proved in proofs/Pairs.antt.
 use Prim.Native.Nat.{ℕ}
 use mathlib.Core.Path.{_≡_}

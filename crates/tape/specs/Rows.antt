@@ -1,4 +1,5 @@
--- Worked rows: calls, what they have to answer, and what has to be seen on the tape after them. P1 to P8 are document 01's; the other rows shut out wrong rules that those would let through.
+-- Worked rows: calls, what they have to answer, and what has to be seen on the tape after them. P1 to P8 are document
+-- 01's; the other rows shut out wrong rules that those would let through.
 -- `EveryRow` is proved in proofs/Rows.antt, by computation.
 use Prim.Native.Nat.{ℕ, _+_, _^_}
 use Prim.Native.String.{String}
@@ -59,7 +60,8 @@ float k = ofInt binary64 (pos k)
 
 -- arrays for n nodes that hold nothing but sevens, so that what a call writes and what it leaves both show
 abbrev pub sevens : ℕ → Arrays floats
-sevens n = arrays (replicate n (float 7)) (replicate n (float 7)) (replicate n 7) (replicate n 7) (replicate (slot n) 7) (replicate (slot n) (float 7))
+sevens n =
+    arrays (replicate n (float 7)) (replicate n (float 7)) (replicate n 7) (replicate n 7) (replicate (slot n) 7) (replicate (slot n) (float 7))
 
 abbrev pub handle : ℕ → ℕ → Handle
 handle i s = record { index = i; serial = s }
@@ -101,20 +103,24 @@ weighed-twice left right p q = operate SUPPLIED-TWO left right (given (float 1) 
 
 -- the listing's four nodes: leaves 3 and 2, their product, the product plus the first leaf, and backward from the last
 abbrev pub four-calls : List (Call floats)
-four-calls = move start ∷ leaf (float 3) ∷ leaf (float 2) ∷ times (node-at 0) (node-at 1) ∷ plus (node-at 2) (node-at 0) ∷ pass (backward (node-at 3)) ∷ []
+four-calls =
+    move start ∷ leaf (float 3) ∷ leaf (float 2) ∷ times (node-at 0) (node-at 1) ∷ plus (node-at 2) (node-at 0) ∷ pass (backward (node-at 3)) ∷ []
 
 abbrev pub four-answers : List (Answer floats)
-four-answers = done ∷ recorded (float 3) (first 0) ∷ recorded (float 2) (first 1) ∷ recorded (float 6) (first 2) ∷ recorded (float 9) (first 3) ∷ counted 4 ∷ []
+four-answers =
+    done ∷ recorded (float 3) (first 0) ∷ recorded (float 2) (first 1) ∷ recorded (float 6) (first 2) ∷ recorded (float 9) (first 3) ∷ counted 4 ∷ []
 
 abbrev pub four-adjoints : Sight
 four-adjoints = adjoints (float 3 ∷ float 3 ∷ float 1 ∷ float 1 ∷ float 7 ∷ [])
 
 abbrev pub four-listing : Sight
-four-listing = lists "nodes=4 mark=0 active=1\nnode=0 val=4008000000000000 adj=4008000000000000\nnode=1 val=4000000000000000 adj=4008000000000000\nnode=2 val=4018000000000000 adj=3ff0000000000000\nnode=3 val=4022000000000000 adj=3ff0000000000000\n"
+four-listing =
+    lists "nodes=4 mark=0 active=1\nnode=0 val=4008000000000000 adj=4008000000000000\nnode=1 val=4000000000000000 adj=4008000000000000\nnode=2 val=4018000000000000 adj=3ff0000000000000\nnode=3 val=4022000000000000 adj=3ff0000000000000\n"
 
 -- further calls on the four nodes, of five that the tape has room for
 abbrev pub on-four : List (Call floats) → List (Answer floats) → List Sight → Row
-on-four calls answers sights = record { before = fresh (sevens 5); calls = four-calls ++ calls; answers = four-answers ++ answers; sights = sights }
+on-four calls answers sights =
+    record { before = fresh (sevens 5); calls = four-calls ++ calls; answers = four-answers ++ answers; sights = sights }
 
 -- P1 without a root, mark 0 walked to start, or mark = length walked from the end: nothing changes, count 0
 abbrev pub P1-to-start : Row
@@ -141,10 +147,12 @@ abbrev pub squared-answers : List (Answer floats)
 squared-answers = done ∷ recorded (float 3) (first 0) ∷ recorded (float 9) (first 1) ∷ counted 2 ∷ []
 
 abbrev pub P3 : Row
-P3 = record { before = fresh (sevens 2); calls = squared; answers = squared-answers; sights = adjoints (float 6 ∷ float 1 ∷ []) ∷ [] }
+P3 =
+    record { before = fresh (sevens 2); calls = squared; answers = squared-answers; sights = adjoints (float 6 ∷ float 1 ∷ []) ∷ [] }
 
 abbrev pub P4 : Row
-P4 = record { before = fresh (sevens 2); calls = squared ++ (pass (backward (node-at 1)) ∷ []); answers = squared-answers ++ (counted 2 ∷ []); sights = adjoints (float 12 ∷ float 1 ∷ []) ∷ [] }
+P4 =
+    record { before = fresh (sevens 2); calls = squared ++ (pass (backward (node-at 1)) ∷ []); answers = squared-answers ++ (counted 2 ∷ []); sights = adjoints (float 12 ∷ float 1 ∷ []) ∷ [] }
 
 -- P5 plain 2 times plain 3, active: a node with no edge
 abbrev pub P5 : Row
@@ -161,7 +169,8 @@ P6 = record {
   before = fresh (sevens 3);
   calls = move start ∷ leaf (float 1) ∷ leaf (float 1) ∷ max (node-at 0) (node-at 1) ∷ [];
   answers = done ∷ recorded (float 1) (first 0) ∷ recorded (float 1) (first 1) ∷ recorded (float 1) (first 2) ∷ [];
-  sights = edge-counts (0 ∷ 0 ∷ 2 ∷ []) ∷ partials (float 7 ∷ float 7 ∷ float 7 ∷ float 7 ∷ float 0 ∷ float 0 ∷ []) ∷ [];
+  sights =
+      edge-counts (0 ∷ 0 ∷ 2 ∷ []) ∷ partials (float 7 ∷ float 7 ∷ float 7 ∷ float 7 ∷ float 0 ∷ float 0 ∷ []) ∷ [];
 }
 
 -- a pass, with how many edges it visits, on x and x*x, passed back once before, then the mark, x*x*x, and x*x*x + x
@@ -169,13 +178,15 @@ abbrev pub marked : Pass floats → ℕ → List Sight → Row
 marked p edges sights = record {
   before = fresh (sevens 4);
   calls = squared ++ (move set-mark ∷ times (node-at 1) (node-at 0) ∷ plus (node-at 2) (node-at 0) ∷ pass p ∷ []);
-  answers = squared-answers ++ (done ∷ recorded (float 27) (first 2) ∷ recorded (float 30) (first 3) ∷ counted edges ∷ []);
+  answers =
+      squared-answers ++ (done ∷ recorded (float 27) (first 2) ∷ recorded (float 30) (first 3) ∷ counted edges ∷ []);
   sights = sights;
 }
 
 -- P7 mark form to start with a root at or past the mark: root adjoint 1, its edges not walked
 abbrev pub P7-at-the-mark : Row
-P7-at-the-mark = marked (backward-mark-to-start (node-at 2)) 2 (adjoints (float 12 ∷ float 1 ∷ float 1 ∷ float 0 ∷ []) ∷ [])
+P7-at-the-mark =
+    marked (backward-mark-to-start (node-at 2)) 2 (adjoints (float 12 ∷ float 1 ∷ float 1 ∷ float 0 ∷ []) ∷ [])
 
 abbrev pub P7-past-it : Row
 P7-past-it = marked (backward-mark-to-start (node-at 3)) 2 (adjoints (float 12 ∷ float 1 ∷ float 0 ∷ float 1 ∷ []) ∷ [])
@@ -187,26 +198,32 @@ P8 =
     let new = node (handle 1 3) in
     record {
       before = fresh (sevens 2);
-      calls = move start ∷ leaf (float 3) ∷ move set-mark ∷ plus (node-at 0) (node-at 0) ∷ pass (backward old) ∷ is-live old ∷ move rewind-to-mark ∷ leaf (float 2)
+      calls =
+          move start ∷ leaf (float 3) ∷ move set-mark ∷ plus (node-at 0) (node-at 0) ∷ pass (backward old) ∷ is-live old ∷ move rewind-to-mark ∷ leaf (float 2)
           ∷ adjoint-of new ∷ plus old (node-at 0) ∷ pass (backward old) ∷ value-of old ∷ adjoint-of old ∷ is-live old ∷ is-live new ∷ [];
-      answers = done ∷ recorded (float 3) (first 0) ∷ done ∷ recorded (float 6) (handle 1 2) ∷ counted 2 ∷ counted 1 ∷ done ∷ recorded (float 2) (handle 1 3)
+      answers =
+          done ∷ recorded (float 3) (first 0) ∷ done ∷ recorded (float 6) (handle 1 2) ∷ counted 2 ∷ counted 1 ∷ done ∷ recorded (float 2) (handle 1 3)
           ∷ read-value (float 0) ∷ refused NotLive ∷ refused NotLive ∷ refused NotLive ∷ refused NotLive ∷ counted 0 ∷ counted 1 ∷ [];
       sights = adjoints (float 2 ∷ float 0 ∷ []) ∷ [];
     }
 
 -- a root in the middle: what stands above it is not walked
 abbrev pub in-the-middle : Row
-in-the-middle = on-four (pass (backward (node-at 2)) ∷ []) (counted 2 ∷ []) (adjoints (float 5 ∷ float 6 ∷ float 1 ∷ float 1 ∷ float 7 ∷ []) ∷ [])
+in-the-middle =
+    on-four (pass (backward (node-at 2)) ∷ []) (counted 2 ∷ []) (adjoints (float 5 ∷ float 6 ∷ float 1 ∷ float 1 ∷ float 7 ∷ []) ∷ [])
 
 -- the mark forms with a root elsewhere: the same range, wherever the root lies
 abbrev pub start-from-below : Row
-start-from-below = marked (backward-mark-to-start (node-at 0)) 2 (adjoints (float 7 ∷ float 1 ∷ float 0 ∷ float 0 ∷ []) ∷ [])
+start-from-below =
+    marked (backward-mark-to-start (node-at 0)) 2 (adjoints (float 7 ∷ float 1 ∷ float 0 ∷ float 0 ∷ []) ∷ [])
 
 abbrev pub mark-from-the-end : Row
-mark-from-the-end = marked (backward-to-mark (node-at 3)) 4 (adjoints (float 16 ∷ float 4 ∷ float 1 ∷ float 1 ∷ []) ∷ [])
+mark-from-the-end =
+    marked (backward-to-mark (node-at 3)) 4 (adjoints (float 16 ∷ float 4 ∷ float 1 ∷ float 1 ∷ []) ∷ [])
 
 abbrev pub mark-from-between : Row
-mark-from-between = marked (backward-to-mark (node-at 2)) 4 (adjoints (float 15 ∷ float 4 ∷ float 1 ∷ float 0 ∷ []) ∷ [])
+mark-from-between =
+    marked (backward-to-mark (node-at 2)) 4 (adjoints (float 15 ∷ float 4 ∷ float 1 ∷ float 0 ∷ []) ∷ [])
 
 abbrev pub mark-from-below : Row
 mark-from-below = marked (backward-to-mark (node-at 0)) 4 (adjoints (float 1 ∷ float 1 ∷ float 0 ∷ float 0 ∷ []) ∷ [])
@@ -215,8 +232,10 @@ mark-from-below = marked (backward-to-mark (node-at 0)) 4 (adjoints (float 1 ∷
 abbrev pub zero-adjoint : Row
 zero-adjoint = record {
   before = fresh (sevens 3);
-  calls = move start ∷ leaf (float 3) ∷ weighed (node-at 0) (inf false) ∷ leaf (float 2) ∷ pass (backward (node-at 2)) ∷ [];
-  answers = done ∷ recorded (float 3) (first 0) ∷ recorded (float 1) (first 1) ∷ recorded (float 2) (first 2) ∷ counted 1 ∷ [];
+  calls =
+      move start ∷ leaf (float 3) ∷ weighed (node-at 0) (inf false) ∷ leaf (float 2) ∷ pass (backward (node-at 2)) ∷ [];
+  answers =
+      done ∷ recorded (float 3) (first 0) ∷ recorded (float 1) (first 1) ∷ recorded (float 2) (first 2) ∷ counted 1 ∷ [];
   sights = adjoints (nan ∷ float 0 ∷ float 1 ∷ []) ∷ [];
 }
 
@@ -224,8 +243,10 @@ zero-adjoint = record {
 abbrev pub left-first : Row
 left-first = record {
   before = fresh (sevens 4);
-  calls = move start ∷ leaf (float 3) ∷ weighed-twice (node-at 0) (node-at 0) (float 1) (neg (float (2 ^ 53))) ∷ weighed (node-at 0) (float (2 ^ 53)) ∷ plus (node-at 1) (node-at 2) ∷ pass (backward (node-at 3)) ∷ [];
-  answers = done ∷ recorded (float 3) (first 0) ∷ recorded (float 1) (first 1) ∷ recorded (float 1) (first 2) ∷ recorded (float 2) (first 3) ∷ counted 5 ∷ [];
+  calls =
+      move start ∷ leaf (float 3) ∷ weighed-twice (node-at 0) (node-at 0) (float 1) (neg (float (2 ^ 53))) ∷ weighed (node-at 0) (float (2 ^ 53)) ∷ plus (node-at 1) (node-at 2) ∷ pass (backward (node-at 3)) ∷ [];
+  answers =
+      done ∷ recorded (float 3) (first 0) ∷ recorded (float 1) (first 1) ∷ recorded (float 1) (first 2) ∷ recorded (float 2) (first 3) ∷ counted 5 ∷ [];
   sights = adjoints (float 0 ∷ float 1 ∷ float 1 ∷ float 1 ∷ []) ∷ [];
 }
 
@@ -245,8 +266,10 @@ plain-numbers =
 -- a node that is its own child is refused 7 before the root's adjoint is set; a walk that does not reach it is not
 abbrev pub own-child : Row
 own-child = record {
-  before = machine (state 3 1 false 8) (arrays (replicate 3 (float 7)) (replicate 3 (float 7)) (7 ∷ 7 ∷ 7 ∷ []) (0 ∷ 1 ∷ 1 ∷ []) (replicate 4 1 ++ (0 ∷ 7 ∷ [])) (replicate 6 (float 1)));
-  calls = pass (backward (node (handle 2 7))) ∷ pass (backward-to-mark (node (handle 0 7))) ∷ pass propagate-to-mark ∷ pass (backward-mark-to-start (node (handle 2 7))) ∷ [];
+  before =
+      machine (state 3 1 false 8) (arrays (replicate 3 (float 7)) (replicate 3 (float 7)) (7 ∷ 7 ∷ 7 ∷ []) (0 ∷ 1 ∷ 1 ∷ []) (replicate 4 1 ++ (0 ∷ 7 ∷ [])) (replicate 6 (float 1)));
+  calls =
+      pass (backward (node (handle 2 7))) ∷ pass (backward-to-mark (node (handle 0 7))) ∷ pass propagate-to-mark ∷ pass (backward-mark-to-start (node (handle 2 7))) ∷ [];
   answers = refused UnsoundEdge ∷ refused UnsoundEdge ∷ refused UnsoundEdge ∷ counted 0 ∷ [];
   sights = adjoints (float 7 ∷ float 7 ∷ float 1 ∷ []) ∷ [];
 }
@@ -254,8 +277,10 @@ own-child = record {
 -- three edges are refused 7, after 3 and 4 for the root, and not where the walk does not reach them
 abbrev pub three-edges : Row
 three-edges = record {
-  before = machine (state 2 0 false 8) (arrays (replicate 2 (float 7)) (replicate 2 (float 7)) (7 ∷ 7 ∷ []) (0 ∷ 3 ∷ []) (replicate 4 0) (replicate 4 (float 1)));
-  calls = pass (backward (node (handle 1 7))) ∷ pass (backward (node (handle 1 6))) ∷ pass (backward (plain (float 1))) ∷ pass (backward (node (handle 0 7))) ∷ [];
+  before =
+      machine (state 2 0 false 8) (arrays (replicate 2 (float 7)) (replicate 2 (float 7)) (7 ∷ 7 ∷ []) (0 ∷ 3 ∷ []) (replicate 4 0) (replicate 4 (float 1)));
+  calls =
+      pass (backward (node (handle 1 7))) ∷ pass (backward (node (handle 1 6))) ∷ pass (backward (plain (float 1))) ∷ pass (backward (node (handle 0 7))) ∷ [];
   answers = refused UnsoundEdge ∷ refused NotLive ∷ refused Detached ∷ counted 0 ∷ [];
   sights = adjoints (float 1 ∷ float 7 ∷ []) ∷ [];
 }
@@ -264,14 +289,16 @@ three-edges = record {
 abbrev pub mark-over-length : Row
 mark-over-length = record {
   before = machine (state 1 2 true 8) (sevens 2);
-  calls = move start ∷ times (node-at 0) (node-at 0) ∷ clear ∷ pass (backward (node-at 0)) ∷ pass propagate-to-mark ∷ value-of (node-at 0) ∷ adjoint-of (plain (float 1)) ∷ is-live (node-at 0) ∷ list 0 ∷ [];
+  calls =
+      move start ∷ times (node-at 0) (node-at 0) ∷ clear ∷ pass (backward (node-at 0)) ∷ pass propagate-to-mark ∷ value-of (node-at 0) ∷ adjoint-of (plain (float 1)) ∷ is-live (node-at 0) ∷ list 0 ∷ [];
   answers = replicate 9 (refused Misshapen);
   sights = adjoints (float 7 ∷ float 7 ∷ []) ∷ [];
 }
 
 -- an empty tape has a header alone
 abbrev pub listed-empty : Row
-listed-empty = record { before = fresh (sevens 0); calls = move start ∷ list 24 ∷ []; answers = done ∷ counted 24 ∷ []; sights = lists "nodes=0 mark=0 active=1\n" ∷ [] }
+listed-empty =
+    record { before = fresh (sevens 0); calls = move start ∷ list 24 ∷ []; answers = done ∷ counted 24 ∷ []; sights = lists "nodes=0 mark=0 active=1\n" ∷ [] }
 
 -- the sign of a zero shows
 abbrev pub listed-zero : Row
@@ -309,7 +336,8 @@ chosen op l r v = record {
   sights = partials (float 7 ∷ float 7 ∷ float 7 ∷ float 7 ∷ float 0 ∷ float 0 ∷ []) ∷ [];
 }
 
--- where the Rust departs from the table, so that no run beside it compares the value: zeros of unlike sign, and a NaN on the right. Proved in proofs/Rows.antt
+-- where the Rust departs from the table, so that no run beside it compares the value: zeros of unlike sign, and a NaN
+-- on the right. Proved in proofs/Rows.antt
 abbrev pub EveryChoice : Type 0
 EveryChoice =
     Holds (chosen MAX (neg (float 0)) (float 0) (neg (float 0)))
