@@ -1,12 +1,16 @@
--- Runs of stores: two that follow each other are one, and the last of a run may be made first.
-use Prim.Native.Nat.{ℕ, suc, _+_}
+-- Runs of stores: two that follow each other are one, and the last of a run may be made first. Where there is room, a run is what a writer leaves.
+use Prim.Native.Nat.{ℕ, suc, _+_, _≤_, _<_}
 use native.Mathlib.Nat.{add-zero}
 use native.Mathlib.Omega.{arith}
-use mathlib.Core.Path.{_≡_}
+use mathlib.Core.Path.{_≡_, sym, ap, _∙_}
+use mathlib.Core.Bool.{true, false}
 use mathlib.Core.List.{List, [], _∷_, _++_, append-assoc}
-use lib.ListN.{length, set, length-append}
-use lib.Seq.{sets, set-comm}
-use Rattle.listing.specs.Inner.{Wrote}
+use borrow.Author.Tests.{le-leb, leb-true}
+use lib.Dec.{leb}
+use lib.ListN.{length, set, take, drop, length-append}
+use lib.Seq.{sets, set-comm, sets-eq}
+use Rattle.text.specs.Written.{written}
+use Rattle.text.specs.Inner.{Wrote}
 
 sets-append : (l : List ℕ) (i : ℕ) (vs ws : List ℕ) → sets (sets l i vs) (i + length vs) ws ≡ sets l i (vs ++ ws)
 sets-append l i [] ws = rw add-zero
@@ -34,3 +38,17 @@ less-left {m = m} {j = j} {vs = vs} {ws = ws} a b = record { bytes = cc (sets-ap
 
 pub none-left : {l m : List ℕ} {i j : ℕ} {whole : List ℕ} → Left l i whole m j [] → Wrote l i whole m j
 none-left a = record { bytes = a .bytes; behind = omega arith }
+
+-- ---- what a writer leaves
+
+pub has-room : {before after : List ℕ} {at end : ℕ} (text : List ℕ) → leb (at + length text) (length before) ≡ true → Wrote before at text after end → (end, after) ≡ written before at text
+has-room {before} {after} {at} text e w = rw (e, w .behind) (ap (λ l. (at + length text, l)) (w .bytes ∙ sets-eq text before at (leb-true _ _ e)))
+
+pub no-room : {before : List ℕ} {at : ℕ} (text : List ℕ) → leb (at + length text) (length before) ≡ false → (at, before) ≡ written before at text
+no-room text e = rw e
+
+-- a caller that left room for the text reads the promise of a writer so
+pub wrote : {before after : List ℕ} {at end : ℕ} (text : List ℕ) → at + length text ≤ length before → (end, after) ≡ written before at text → Wrote before at text after end
+wrote {before} {after} {at} {end} text h e =
+    let there = rw (le-leb _ _ h) at e in
+    record { bytes = ap (λ p. p .1) there ∙ sym (sets-eq text before at h); behind = ap (λ p. p .0) there }
