@@ -8,7 +8,7 @@ use mathlib.Core.List.{List, [], _∷_, _++_, append-assoc}
 use borrow.Author.Tests.{le-leb, leb-true}
 use lib.Dec.{leb}
 use lib.ListN.{length, set, take, drop, length-append}
-use lib.Seq.{sets, set-comm, sets-eq}
+use lib.Seq.{sets, set-comm, length-sets, sets-eq}
 use Rattle.text.specs.Written.{written}
 use Rattle.text.specs.Inner.{Wrote}
 
@@ -52,3 +52,10 @@ pub wrote : {before after : List ℕ} {at end : ℕ} (text : List ℕ) → at + 
 wrote {before} {after} {at} {end} text h e =
     let there = rw (le-leb _ _ h) at e in
     record { bytes = ap (λ p. p .1) there ∙ sym (sets-eq text before at h); behind = ap (λ p. p .0) there }
+
+-- one writer more, with room for the whole
+pub then-written : {l m n : List ℕ} {i j k : ℕ} {vs : List ℕ} → Wrote l i vs m j → (ws : List ℕ) → i + length (vs ++ ws) ≤ length l → (k, n) ≡ written m j ws → Wrote l i (vs ++ ws) n k
+then-written {l} {i = i} {vs = vs} a ws h e = then a (wrote ws (omega (arith, ap length (a .bytes), length-sets l i vs, length-append vs ws)) e)
+
+pub wrote-both : {l m n : List ℕ} {i j k : ℕ} (vs ws : List ℕ) → i + length vs + length ws ≤ length l → (j, m) ≡ written l i vs → (k, n) ≡ written m j ws → Wrote l i (vs ++ ws) n k
+wrote-both vs ws h d e = then-written (wrote vs (omega arith) d) ws (omega (arith, length-append vs ws)) e
