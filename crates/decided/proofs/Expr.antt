@@ -4,7 +4,7 @@ use mathlib.Core.List.{List}
 use lib.Ieee.{Float}
 use Rattle.tape.specs.Numbers.{floats}
 use Rattle.tape.specs.Machine.{Arrays}
-use Rattle.expr.proofs.OneToOne.{told}
+use Rattle.expr.proofs.OneToOne.{one-to-one}
 use Rattle.decided.specs.Expr.{Expr}
 use Rattle.decided.proofs.Rules.{told-with}
 
@@ -14,16 +14,7 @@ six-arrays u A = (tt, (A .value, (A .adjoint, (A .serial, (A .count, (A .child, 
 
 pub expr : Expr
 expr = record {
-  new-leaf = record { same = told-with told (six-arrays _) _ _ };
-  put-on-tape = record { same = told-with told (six-arrays _) _ _ };
-  add = record { same = told-with told (six-arrays _) _ _ };
-  sub = record { same = told-with told (six-arrays _) _ _ };
-  mul = record { same = told-with told (six-arrays _) _ _ };
-  div = record { same = told-with told (six-arrays _) _ _ };
-  max = record { same = told-with told (six-arrays _) _ _ };
-  min = record { same = told-with told (six-arrays _) _ _ };
-  neg = record { same = told-with told (six-arrays _) _ _ };
-  supplied-one = record { same = told-with told (six-arrays _) _ _ };
-  supplied-two = record { same = told-with told (six-arrays _) _ _ };
-  «record» = record { same = told-with told (six-arrays _) _ _ };
+  new-leaf = record { same = told-with one-to-one (six-arrays _) _ _ };
+  put-on-tape = record { same = told-with one-to-one (six-arrays _) _ _ };
+  «record» = record { same = told-with one-to-one (six-arrays _) _ _ };
 }

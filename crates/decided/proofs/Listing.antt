@@ -7,7 +7,7 @@ use Rattle.tape.specs.Machine.{Machine}
 use Rattle.tape.specs.Answers.{Answer}
 use Rattle.listing.specs.Outcome.{outcome}
 use Rattle.listing.specs.declared.listing.Listed.{Listed}
-use Rattle.listing.proofs.OneToOne.{told}
+use Rattle.listing.proofs.OneToOne.{one-to-one}
 use Rattle.decided.specs.Listing.{Listing}
 use Rattle.decided.proofs.Rules.{equal, told-with}
 
@@ -17,7 +17,7 @@ says M x out = (outcome x M, out)
 
 -- no two of them say the same
 told-both : (M : Machine floats) (x y : Listed) (b c : List ℕ) → says M x b ≡ says M y c → (x ≡ y) × (b ≡ c)
-told-both M x y b c e = (told x y M (ap (λ o. o .0) e), ap (λ o. o .1) e)
+told-both M x y b c e = (one-to-one x y M (ap (λ o. o .0) e), ap (λ o. o .1) e)
 
 -- what is left of a listing's parameters: the bytes, behind the state and the six arrays, of which nothing is
 abbrev pub bytes : List ℕ → Unit {0} × (Unit {0} × (Unit {0} × (Unit {0} × (Unit {0} × (Unit {0} × (Unit {0} × (List ℕ × Unit {0})))))))

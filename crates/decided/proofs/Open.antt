@@ -12,10 +12,10 @@ use denote.Triple.Entry.{Args, Res}
 use denote.Triple.Clauses.{Ended, Lasts, atExit}
 use Rattle.tape.specs.Numbers.{floats}
 use Rattle.tape.specs.Machine.{Arrays, arrays, machine, new-tape}
-use Rattle.tape.specs.Calls.{step}
+use Rattle.tape.specs.Steps.{step}
 use Rattle.tape.specs.declared.errors.Refusal.the-variants.{Misshapen}
 use Rattle.tape.specs.declared.node.Operand.the-variants.{Number}
-use Rattle.tape.specs.declared.state.Tape.{Tape}
+use Rattle.tape.specs.declared.tape.Tape.{Tape}
 use Rattle.expr.specs.declared.recording.Recorded.the-variants as recorded
 use Rattle.dual.specs.declared.passes.Passed.the-variants as passed
 use Rattle.listing.specs.declared.listing.Listed.the-variants as listed

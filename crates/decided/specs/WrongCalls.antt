@@ -7,22 +7,33 @@ use mathlib.Core.Option.{Option, none, some}
 use lib.Ieee.{Float, nan, binary64, div, neg as minus}
 use lib.ListN.{set, take, replicate}
 use Rattle.tape.specs.Numbers.{floats}
-use Rattle.tape.specs.Machine.{Arrays, Machine, arrays, machine, new-tape, fits}
-use Rattle.tape.specs.Handles.{Operand, plain, node, looked-up}
+use Rattle.tape.specs.Machine.{Arrays, Machine, arrays, machine, new-tape}
+use Rattle.tape.specs.Handles.{Operand, plain, node, looked-up, usable-as}
+use Rattle.tape.specs.Operations.{ADD, SUBTRACT, MULTIPLY, DIVIDE, MAX, MIN, NEGATE, SUPPLIED-ONE, SUPPLIED-TWO}
 use Rattle.tape.specs.Walk.{Edge}
 use Rattle.tape.specs.Listing.{listing}
-use Rattle.tape.specs.Answers.{Answer, number, refused, done, told, recorded, counted}
-use Rattle.tape.specs.Calls.{Call, Move, start, stop, set-mark, reset-mark, rewind-to-mark, rewind-to-init, move, operate, clear, pass, backward, backward-to-mark, backward-mark-to-start, propagate-to-mark, propagate-mark-to-start, value-of, adjoint-of, is-live, list, issued, written, with-adjoints, last-serial, step}
+use Rattle.tape.specs.Answers.{Answer, number, refused, done, read-value, recorded, counted}
+use Rattle.tape.specs.Calls.{Call, Move, start, stop, set-mark, reset-mark, rewind-to-mark, rewind-to-init, move, operate, clear, pass, backward, backward-to-mark, backward-mark-to-start, propagate-to-mark, propagate-mark-to-start, value-of, adjoint-of, is-live, list, issued, written, with-adjoints}
+use Rattle.tape.specs.Admission.{lengths, admitted, let-in}
+use Rattle.tape.specs.Refusals.{last-serial}
+use Rattle.tape.specs.Steps.{step}
 use Rattle.tape.specs.Kept.{fresh, after}
-use Rattle.tape.specs.Rows.{float, sevens, handle, node-at, leaf, four-calls}
+use Rattle.tape.specs.Rows.{float, sevens, handle, node-at, given, leaf, binary, four-calls}
 use Rattle.tape.specs.declared.errors.Refusal.the-variants.{Misshapen, UnknownOperation, NotLive as Refusal·NotLive, Detached, Full, SerialsSpent, ListingTooLong}
 use Rattle.tape.specs.declared.node.Handle.{Handle}
 use Rattle.tape.specs.declared.node.Lookup.{Lookup}
 use Rattle.tape.specs.declared.node.Lookup.the-variants.{Live, NotLive}
-use Rattle.tape.specs.declared.state.Tape.{Tape}
+use Rattle.tape.specs.declared.node.Usable.{Usable}
+use Rattle.tape.specs.declared.node.Usable.the-variants as usable
+use Rattle.tape.specs.declared.admission.Admission.{Admission}
+use Rattle.tape.specs.declared.admission.Admission.the-variants as admission
+use Rattle.tape.specs.declared.admission.Caller.the-variants as caller
+use Rattle.tape.specs.declared.admission.Lengths.{Lengths}
+use Rattle.tape.specs.declared.tape.Tape.{Tape}
+use Rattle.expr.specs.Operators.{unused}
 use Rattle.expr.specs.Operators as expr
 use Rattle.listing.specs.Outcome.{listed}
-use Rattle.decided.specs.Tried.{Tried, tried, ruled-out, bits, a-bool}
+use Rattle.decided.specs.Tried.{Tried, tried, ruled-out, bits}
 
 -- ---- how answers are written out
 
@@ -35,6 +46,23 @@ found NotLive = 0
 
 abbrev pub a-lookup : Lookup → Lookup → Tried
 a-lookup = tried (λ l. found l ∷ [])
+
+abbrev pub usable-shown : Usable → List ℕ
+usable-shown usable.Live = 0 ∷ []
+usable-shown (usable.Refused r) = number r ∷ []
+
+abbrev pub a-usable : Usable → Usable → Tried
+a-usable = tried usable-shown
+
+abbrev pub admission-shown : Admission → List ℕ
+admission-shown admission.Granted = 0 ∷ []
+admission-shown (admission.Refused r) = number r ∷ []
+
+abbrev pub an-admission : Admission → Admission → Tried
+an-admission = tried admission-shown
+
+abbrev pub a-size : Lengths → Lengths → Tried
+a-size = tried (λ n. n .value ∷ n .adjoint ∷ n .serial ∷ n .count ∷ n .child ∷ n .partial ∷ [])
 
 abbrev pub state-shown : Tape → List ℕ
 state-shown t = t .length ∷ t .mark ∷ cond (t .active) 1 0 ∷ t .next ∷ []
@@ -145,6 +173,16 @@ abbrev pub lookup-tried : List Tried
 lookup-tried = a-lookup (looked-up (state 2 0 true 10) (7 ∷ 9 ∷ []) (handle 1 7)) Live
     ∷ a-lookup (looked-up (state 1 0 true 10) (0 ∷ []) (handle 0 0)) Live ∷ []
 
+-- usable: a handle past the length taken, whose serial is stored there; what is not live refused 4
+abbrev pub usable-tried : List Tried
+usable-tried = a-usable (usable-as (state 1 0 true 10) (7 ∷ 9 ∷ []) (handle 1 9)) usable.Live
+    ∷ a-usable (usable-as (state 2 0 true 10) (7 ∷ 9 ∷ []) (handle 1 7)) (usable.Refused Detached) ∷ []
+
+-- Lengths::of: the capacity in place of the adjoints' own length; children counted by the node
+abbrev pub lengths-of-tried : List Tried
+lengths-of-tried = a-size (lengths longer) (record { value = 4; adjoint = 4; serial = 4; count = 4; child = 8; partial = 8 })
+    ∷ a-size (lengths (sevens 4)) (record { value = 4; adjoint = 4; serial = 4; count = 4; child = 4; partial = 8 }) ∷ []
+
 -- new: an active tape; a first serial of 0
 abbrev pub new-tried : List Tried
 new-tried = a-state new-tape (state 0 0 true 1)
@@ -180,19 +218,20 @@ abbrev pub rewind-to-init-tried : List Tried
 rewind-to-init-tried = a-step (step (move rewind-to-init) (kept 3 1 false)) (done, kept 0 0 true)
     ∷ a-move rewind-to-init (state 0 0 true 1) ∷ []
 
--- admits: a length over the capacity let through; an array longer than it has to be
-abbrev pub admits-tried : List Tried
-admits-tried = a-bool (fits true (kept 5 0 true)) true
-    ∷ a-bool (fits true (machine (state 1 0 true 9) longer)) true ∷ []
+-- admit: a length over the capacity let through; an array longer than it has to be; a move refused for the arrays, which it is not lent
+abbrev pub admit-tried : List Tried
+admit-tried = an-admission (admitted (let-in caller.Recording (kept 5 0 true))) admission.Granted
+    ∷ an-admission (admitted (let-in caller.Listing (machine (state 1 0 true 9) longer))) admission.Granted
+    ∷ an-admission (admitted (let-in caller.Move (kept 5 0 true))) (admission.Refused Misshapen) ∷ []
 
 -- ---- wrong answers: expr
 
--- record: the new node's adjoint as its value; a right handle that is not live refused at 7; operation 10 recorded; a node recorded past the capacity, or with the last serial
+-- record: the new node's adjoint as its value; a right handle that is not live refused at NEGATE, which does not use it; operation 10 recorded; a node recorded past the capacity, or with the last serial
 abbrev pub record-tried : List Tried
-record-tried = a-step (step (expr.neg x0) two) (with-adjoint (minus (float 3)) (recording (minus (float 3)) (to 0 (minus one) ∷ [])))
-    ∷ a-step (step (operate 7 x0 stale expr.nothing) two) (refused Refusal·NotLive, two)
-    ∷ a-step (step (operate 10 x0 x1 expr.nothing) two) (recording nan [])
-    ∷ a-step (step (expr.neg x0) full) (recorded (minus (float 3)) (issued (full .state)), written full (minus (float 3)) (to 0 (minus one) ∷ []))
+record-tried = a-step (step (binary NEGATE x0 unused) two) (with-adjoint (minus (float 3)) (recording (minus (float 3)) (to 0 (minus one) ∷ [])))
+    ∷ a-step (step (binary NEGATE x0 stale) two) (refused Refusal·NotLive, two)
+    ∷ a-step (step (binary 10 x0 x1) two) (recording nan [])
+    ∷ a-step (step (binary NEGATE x0 unused) full) (recorded (minus (float 3)) (issued (full .state)), written full (minus (float 3)) (to 0 (minus one) ∷ []))
     ∷ a-step (step (expr.new-leaf one) spent) (recorded one (issued (spent .state)), written spent one []) ∷ []
 
 -- new_leaf: an adjoint left by the slot's last tenant; an unused edge slot cleared
@@ -205,62 +244,62 @@ abbrev pub put-on-tape-tried : List Tried
 put-on-tape-tried = a-step (step (expr.put-on-tape x0) two) (recording (float 3) (to 0 one ∷ []))
     ∷ a-step (step (expr.put-on-tape stale) two) (recording (float 2) []) ∷ []
 
--- add: one edge for equal operands; an edge for a plain number
+-- record ADD: one edge for equal operands; an edge for a plain number
 abbrev pub add-tried : List Tried
-add-tried = a-step (step (expr.add x0 x0) two) (recording (float 6) (to 0 (float 2) ∷ []))
-    ∷ a-step (step (expr.add x0 (plain (float 2))) two) (recording (float 5) (to 0 one ∷ to 0 one ∷ [])) ∷ []
+add-tried = a-step (step (binary ADD x0 x0) two) (recording (float 6) (to 0 (float 2) ∷ []))
+    ∷ a-step (step (binary ADD x0 (plain (float 2))) two) (recording (float 5) (to 0 one ∷ to 0 one ∷ [])) ∷ []
 
--- sub: the right partial as 1; a right edge at slot 2i + 1 where the left operand is a number
-abbrev pub sub-tried : List Tried
-sub-tried = a-step (step (expr.sub x0 x1) two) (recording one (to 0 one ∷ to 1 one ∷ []))
-    ∷ a-step (step (expr.sub (plain (float 5)) x1) two) in-second-slot ∷ []
+-- record SUBTRACT: the right partial as 1; a right edge at slot 2i + 1 where the left operand is a number
+abbrev pub subtract-tried : List Tried
+subtract-tried = a-step (step (binary SUBTRACT x0 x1) two) (recording one (to 0 one ∷ to 1 one ∷ []))
+    ∷ a-step (step (binary SUBTRACT (plain (float 5)) x1) two) in-second-slot ∷ []
 
--- mul: the partials exchanged; equal operands as one edge of twice the partial
-abbrev pub mul-tried : List Tried
-mul-tried = a-step (step (expr.mul x0 x1) two) (recording (float 6) (to 0 (float 3) ∷ to 1 (float 2) ∷ []))
-    ∷ a-step (step (expr.mul x0 x0) two) (recording (float 9) (to 0 (float 6) ∷ [])) ∷ []
+-- record MULTIPLY: the partials exchanged; equal operands as one edge of twice the partial
+abbrev pub multiply-tried : List Tried
+multiply-tried = a-step (step (binary MULTIPLY x0 x1) two) (recording (float 6) (to 0 (float 3) ∷ to 1 (float 2) ∷ []))
+    ∷ a-step (step (binary MULTIPLY x0 x0) two) (recording (float 9) (to 0 (float 6) ∷ [])) ∷ []
 
--- div: the left partial as l / r; a refusal at r = 0
-abbrev pub div-tried : List Tried
-div-tried = a-step (step (expr.div x0 x1) two) (recording (over 3 2) (to 0 (over 3 2) ∷ to 1 (minus (over 3 4)) ∷ []))
-    ∷ a-step (step (expr.div x0 (plain nought)) two) (refused UnknownOperation, two) ∷ []
+-- record DIVIDE: the left partial as l / r; a refusal at r = 0
+abbrev pub divide-tried : List Tried
+divide-tried = a-step (step (binary DIVIDE x0 x1) two) (recording (over 3 2) (to 0 (over 3 2) ∷ to 1 (minus (over 3 4)) ∷ []))
+    ∷ a-step (step (binary DIVIDE x0 (plain nought)) two) (refused UnknownOperation, two) ∷ []
 
--- max: a partial of 1 at a tie; the number in place of a NaN on the right
+-- record MAX: a partial of 1 at a tie; the number in place of a NaN on the right
 abbrev pub max-tried : List Tried
-max-tried = a-step (step (expr.max x0 x0) two) (recording (float 3) (to 0 one ∷ to 0 nought ∷ []))
-    ∷ a-step (step (expr.max x0 (plain nan)) two) (recording (float 3) (to 0 nought ∷ [])) ∷ []
+max-tried = a-step (step (binary MAX x0 x0) two) (recording (float 3) (to 0 one ∷ to 0 nought ∷ []))
+    ∷ a-step (step (binary MAX x0 (plain nan)) two) (recording (float 3) (to 0 nought ∷ [])) ∷ []
 
--- min: a partial of 1 at a tie; the number in place of a NaN on the right
+-- record MIN: a partial of 1 at a tie; the number in place of a NaN on the right
 abbrev pub min-tried : List Tried
-min-tried = a-step (step (expr.min x0 x0) two) (recording (float 3) (to 0 one ∷ to 0 nought ∷ []))
-    ∷ a-step (step (expr.min x0 (plain nan)) two) (recording (float 3) (to 0 nought ∷ [])) ∷ []
+min-tried = a-step (step (binary MIN x0 x0) two) (recording (float 3) (to 0 one ∷ to 0 nought ∷ []))
+    ∷ a-step (step (binary MIN x0 (plain nan)) two) (recording (float 3) (to 0 nought ∷ [])) ∷ []
 
--- neg: -x, which is -0.0 at +0.0; a partial of 1
-abbrev pub neg-tried : List Tried
-neg-tried = a-step (step (expr.neg (plain nought)) two) (recording (minus nought) [])
-    ∷ a-step (step (expr.neg x0) two) (recording (minus (float 3)) (to 0 one ∷ [])) ∷ []
+-- record NEGATE: -x, which is -0.0 at +0.0; a partial of 1
+abbrev pub negate-tried : List Tried
+negate-tried = a-step (step (binary NEGATE (plain nought) unused) two) (recording (minus nought) [])
+    ∷ a-step (step (binary NEGATE x0 unused) two) (recording (minus (float 3)) (to 0 one ∷ [])) ∷ []
 
--- supplied_one: the supplied partial stored where the operand is a number; a handle that is not live let through, since its value is not used
+-- record SUPPLIED_ONE: the supplied partial stored where the operand is a number; a handle that is not live let through, since its value is not used
 abbrev pub supplied-one-tried : List Tried
-supplied-one-tried = a-step (step (expr.supplied-one (plain (float 5)) (float 9) (float 8)) two) (with-partial (float 8) (recording (float 9) []))
-    ∷ a-step (step (expr.supplied-one stale (float 9) (float 8)) two) (recording (float 9) (to 1 (float 8) ∷ [])) ∷ []
+supplied-one-tried = a-step (step (operate SUPPLIED-ONE (plain (float 5)) unused (given (float 9) (float 8) nought)) two) (with-partial (float 8) (recording (float 9) []))
+    ∷ a-step (step (operate SUPPLIED-ONE stale unused (given (float 9) (float 8) nought)) two) (recording (float 9) (to 1 (float 8) ∷ [])) ∷ []
 
--- supplied_two: the right edge before the left; the value reckoned from the operands
+-- record SUPPLIED_TWO: the right edge before the left; the value reckoned from the operands
 abbrev pub supplied-two-tried : List Tried
-supplied-two-tried = a-step (step (expr.supplied-two x0 x1 (float 9) (float 8) (float 4)) two) (recording (float 9) (to 1 (float 4) ∷ to 0 (float 8) ∷ []))
-    ∷ a-step (step (expr.supplied-two x0 x1 (float 9) (float 8) (float 4)) two) (recording (float 5) (to 0 (float 8) ∷ to 1 (float 4) ∷ [])) ∷ []
+supplied-two-tried = a-step (step (operate SUPPLIED-TWO x0 x1 (given (float 9) (float 8) (float 4))) two) (recording (float 9) (to 1 (float 4) ∷ to 0 (float 8) ∷ []))
+    ∷ a-step (step (operate SUPPLIED-TWO x0 x1 (given (float 9) (float 8) (float 4))) two) (recording (float 5) (to 0 (float 8) ∷ to 1 (float 4) ∷ [])) ∷ []
 
 -- ---- wrong answers: dual
 
 -- value: a number refused 4; the value behind a handle that is not live
 abbrev pub value-tried : List Tried
 value-tried = a-step (step (value-of (plain (float 5))) (marked 2)) (refused Detached, marked 2)
-    ∷ a-step (step (value-of stale) (marked 2)) (told (float 2), marked 2) ∷ []
+    ∷ a-step (step (value-of stale) (marked 2)) (read-value (float 2), marked 2) ∷ []
 
 -- adjoint: a handle that is not live refused 4; 0.0 for a number, which is refused
 abbrev pub adjoint-tried : List Tried
 adjoint-tried = a-step (step (adjoint-of stale) (marked 2)) (refused Detached, marked 2)
-    ∷ a-step (step (adjoint-of (plain (float 5))) (marked 2)) (told nought, marked 2) ∷ []
+    ∷ a-step (step (adjoint-of (plain (float 5))) (marked 2)) (read-value nought, marked 2) ∷ []
 
 -- is_live: a refusal for a handle that is not live; a number that is live
 abbrev pub is-live-tried : List Tried
@@ -325,7 +364,7 @@ passes =
 
 -- each call that changes the machine
 abbrev pub changes : List (Call floats × Machine floats)
-changes = map (λ m. (move m, kept 3 1 true)) (start ∷ stop ∷ set-mark ∷ reset-mark ∷ rewind-to-mark ∷ rewind-to-init ∷ []) ++ ((expr.mul x0 x1, two) ∷ (clear, marked 2) ∷ passes)
+changes = map (λ m. (move m, kept 3 1 true)) (start ∷ stop ∷ set-mark ∷ reset-mark ∷ rewind-to-mark ∷ rewind-to-init ∷ []) ++ ((binary MULTIPLY x0 x1, two) ∷ (clear, marked 2) ∷ passes)
 
 -- and those that read it
 abbrev pub readings : List (Call floats × Machine floats)
@@ -348,10 +387,10 @@ nought-or-one-tried = each-adjoint nought ++ each-adjoint one
 
 abbrev pub calls-tried : List Tried
 calls-tried =
-    number-tried ++ lookup-tried ++ new-tried ++ start-recording-tried ++ stop-recording-tried
-    ++ set-mark-tried ++ reset-mark-tried ++ rewind-to-mark-tried ++ rewind-to-init-tried ++ admits-tried
-    ++ record-tried ++ new-leaf-tried ++ put-on-tape-tried ++ add-tried ++ sub-tried
-    ++ mul-tried ++ div-tried ++ max-tried ++ min-tried ++ neg-tried
+    number-tried ++ lookup-tried ++ usable-tried ++ lengths-of-tried ++ new-tried ++ start-recording-tried ++ stop-recording-tried
+    ++ set-mark-tried ++ reset-mark-tried ++ rewind-to-mark-tried ++ rewind-to-init-tried ++ admit-tried
+    ++ record-tried ++ new-leaf-tried ++ put-on-tape-tried ++ add-tried ++ subtract-tried
+    ++ multiply-tried ++ divide-tried ++ max-tried ++ min-tried ++ negate-tried
     ++ supplied-one-tried ++ supplied-two-tried ++ value-tried ++ adjoint-tried ++ is-live-tried
     ++ reset-adjoints-tried ++ backward-tried ++ backward-to-mark-tried ++ backward-mark-to-start-tried ++ propagate-to-mark-tried
     ++ propagate-mark-to-start-tried ++ list-tried ++ bits-of-tried ++ refuses-tried ++ untouched-tried

@@ -10,17 +10,20 @@ use lib.Dec.{leb}
 use lib.Ieee.{Float}
 use lib.ListN.{getD}
 use Rattle.tape.specs.Numbers.{floats}
-use Rattle.tape.specs.Machine.{Arrays, Machine, slot, fits, all}
+use Rattle.tape.specs.Machine.{Arrays, Machine, slot, all}
 use Rattle.tape.specs.Handles.{plain, node, live, amiss, handles, any-plain}
 use Rattle.tape.specs.Walk.{sound}
-use Rattle.tape.specs.Answers.{refused, admitted}
-use Rattle.tape.specs.Calls.{Pass as Pass′, backward, backward-to-mark, backward-mark-to-start, propagate-to-mark, propagate-mark-to-start, pass, plan, range, let-in, first-amiss, carried, step}
+use Rattle.tape.specs.Answers.{refused}
+use Rattle.tape.specs.Calls.{Pass as Pass′, backward, backward-to-mark, backward-mark-to-start, propagate-to-mark, propagate-mark-to-start, pass, plan, range, carried}
+use Rattle.tape.specs.Admission.{fits, admitted, let-in}
+use Rattle.tape.specs.Refusals.{first-amiss}
+use Rattle.tape.specs.Steps.{step}
 use Rattle.tape.specs.declared.errors.Refusal.{Refusal}
 use Rattle.tape.specs.declared.errors.Refusal.the-variants.{Detached, UnsoundEdge}
 use Rattle.tape.specs.declared.node.Handle.{Handle}
 use Rattle.tape.specs.declared.node.Usable.the-variants as usable
 use Rattle.tape.specs.declared.node.Operand.the-variants.{Number, Node}
-use Rattle.tape.specs.declared.state.Caller.the-variants as caller
+use Rattle.tape.specs.declared.admission.Caller.the-variants as caller
 use Rattle.tape.proofs.Steps.{lives-told, granted-shape}
 use Rattle.tape.proofs.Tests.{Fit, fit, by-test}
 use Rattle.dual.specs.Inner.{pass-of, root-by, root-if, found-root, span-of, inside, all-sound, sound-edges, carried-out, Within, Walkable, Ready}
@@ -155,7 +158,7 @@ module _ (M : Machine floats) (granted : let-in caller.Passing M ≡ none) where
 
 -- ---- place by place, as the code goes: r is the root that it found, s the range
 
-module _ (M : Machine floats) (which : Pass) (r : Root) (found : r ≡ root-if (admitted (let-in caller.Passing M)) (roots M which)) where
+module _ (M : Machine floats) (which : Pass) (r : Root) (liveness-outcome : r ≡ root-if (admitted (let-in caller.Passing M)) (roots M which)) where
   turned : (k : Refusal) → let-in caller.Passing M ≡ some k → Settles M (pass-of which) (Refused k)
   unfolding step
   turned k e = (rw e, tt)
@@ -163,8 +166,8 @@ module _ (M : Machine floats) (which : Pass) (r : Root) (found : r ≡ root-if (
   settled : Settles M (pass-of which) (planned M which r)
   settled = by-cases (let-in caller.Passing M) refl where
     by-cases : (o : Option Refusal) → let-in caller.Passing M ≡ o → Settles M (pass-of which) (planned M which r)
-    by-cases none e = subst (λ r. Settles M (pass-of which) (planned M which r)) (sym (found ∙ ap (λ o. root-if (admitted o) (roots M which)) e)) (planned-so M e which)
-    by-cases (some k) e = subst (λ r. Settles M (pass-of which) (planned M which r)) (sym (found ∙ ap (λ o. root-if (admitted o) (roots M which)) e)) (turned k e)
+    by-cases none e = subst (λ r. Settles M (pass-of which) (planned M which r)) (sym (liveness-outcome ∙ ap (λ o. root-if (admitted o) (roots M which)) e)) (planned-so M e which)
+    by-cases (some k) e = subst (λ r. Settles M (pass-of which) (planned M which r)) (sym (liveness-outcome ∙ ap (λ o. root-if (admitted o) (roots M which)) e)) (turned k e)
 
   pub refuses : (k : Refusal) → r ≡ root.Refused k → Settles M (pass-of which) (Refused k)
   refuses k e = subst (λ r. Settles M (pass-of which) (planned M which r)) e settled
@@ -175,10 +178,10 @@ module _ (M : Machine floats) (which : Pass) (r : Root) (found : r ≡ root-if (
     inside-so = by-cases (let-in caller.Passing M) refl where
       by-cases : (o : Option Refusal) → let-in caller.Passing M ≡ o → let-in caller.Passing M ≡ none
       by-cases none e = e
-      by-cases (some k) e = absurd (sound k (found ∙ ap (λ o. root-if (admitted o) (roots M which)) e))
+      by-cases (some k) e = absurd (sound k (liveness-outcome ∙ ap (λ o. root-if (admitted o) (roots M which)) e))
 
     ends : span M which .end ≤ M .state .length
-    ends = range-end M inside-so which (λ k e. sound k (found ∙ ap (λ o. root-if (admitted o) (roots M which)) inside-so ∙ e))
+    ends = range-end M inside-so which (λ k e. sound k (liveness-outcome ∙ ap (λ o. root-if (admitted o) (roots M which)) inside-so ∙ e))
 
     pub end-small : span M which .end ≤ 65535
     end-small = let f : Fit M = fit M (granted-shape caller.Passing M inside-so) in omega (arith, ends)

@@ -9,8 +9,8 @@ use Rattle.tape.specs.Numbers.{floats}
 use Rattle.tape.specs.Machine.{arrays, machine}
 use Rattle.tape.specs.declared.errors.Refusal.{Refusal}
 use Rattle.tape.specs.declared.node.Handle.{Handle}
-use Rattle.tape.specs.declared.state.Tape.{Tape}
-use Rattle.dual.specs.Outcome.{passed-back}
+use Rattle.tape.specs.declared.tape.Tape.{Tape}
+use Rattle.dual.specs.Outcome.{pass-outcome}
 use Rattle.dual.specs.Inner.{Walkable, Ready, carried-out, walked-back, visits}
 use Rattle.dual.specs.declared.passes.Passed.{Passed}
 use Rattle.dual.specs.declared.passes.Passed.the-variants as passed
@@ -21,7 +21,7 @@ use Rattle.dual.specs.declared.planning.Span.{Span}
 module _ (z : Planned) (a : List Float) (c h : List ℕ) (p : List Float) where
   -- what is left after it, beside any state, values and serials
   abbrev Carried : Passed → List Float → Type 0
-  Carried x b = (t : Tape) (v : List Float) (s : List ℕ) → passed-back x (machine t (arrays v b s c h p)) ≡ carried-out z (machine t (arrays v a s c h p))
+  Carried x b = (t : Tape) (v : List Float) (s : List ℕ) → pass-outcome x (machine t (arrays v b s c h p)) ≡ carried-out z (machine t (arrays v a s c h p))
 
   pub refused-so : (r : Refusal) → z ≡ Refused r → Carried (passed.Refused r) a
   refused-so r e t v s = rw e

@@ -1,7 +1,7 @@
 -- What the private functions promise: the rule as the code goes about it. Only their proofs use it; every public promise speaks of `step`.
 use Prim.Native.Nat.{ℕ, _+_, _-_, _≤_, _<_}
 use mathlib.Core.Path.{_≡_}
-use mathlib.Core.Bool.{Bool, true, cond}
+use mathlib.Core.Bool.{Bool, true}
 use mathlib.Core.List.{List, [], _∷_, map}
 use lib.Ieee.{Float, nan}
 use lib.ListN.{length, getD}
@@ -18,9 +18,9 @@ use Rattle.tape.specs.declared.node.Lookup.the-variants as lookup
 use Rattle.tape.specs.declared.node.Usable.{Usable}
 use Rattle.tape.specs.declared.node.Usable.the-variants as usable
 use Rattle.tape.specs.declared.node.Operand as code
-use Rattle.tape.specs.declared.state.Admission.{Admission}
-use Rattle.tape.specs.declared.state.Admission.the-variants as admission
-use Rattle.tape.specs.declared.state.Tape.{Tape}
+use Rattle.tape.specs.declared.admission.Admission.{Admission}
+use Rattle.tape.specs.declared.admission.Admission.the-variants as admission
+use Rattle.tape.specs.declared.tape.Tape.{Tape}
 use Rattle.dual.specs.declared.reading.Read as read
 use Rattle.dual.specs.declared.reading.Liveness as liveness
 use Rattle.dual.specs.declared.planning.Pass as passes
@@ -37,9 +37,9 @@ read-by (usable.Refused r) x = read.the-variants.Refused r
 abbrev pub behind-node : Tape → List ℕ → List Float → Handle → read.Read
 behind-node t serials held h = read-by (usable-as t serials h) (getD held (h .index) nan)
 
-abbrev pub told-of : Lookup → liveness.Liveness
-told-of lookup.Live = liveness.the-variants.Live
-told-of lookup.NotLive = liveness.the-variants.NotLive
+abbrev pub liveness-of : Lookup → liveness.Liveness
+liveness-of lookup.Live = liveness.the-variants.Live
+liveness-of lookup.NotLive = liveness.the-variants.NotLive
 
 abbrev pub value-behind : Tape → List ℕ → List Float → code.Operand → read.Read
 value-behind t serials held (code.the-variants.Number v) = read.the-variants.Number v
@@ -49,9 +49,9 @@ abbrev pub adjoint-behind : Tape → List ℕ → List Float → code.Operand �
 adjoint-behind t serials held (code.the-variants.Number v) = read.the-variants.Refused Detached
 adjoint-behind t serials held (code.the-variants.Node h) = behind-node t serials held h
 
-abbrev pub liveness-of : Tape → List ℕ → code.Operand → liveness.Liveness
-liveness-of t serials (code.the-variants.Number v) = liveness.the-variants.NotLive
-liveness-of t serials (code.the-variants.Node h) = told-of (looked-up t serials h)
+abbrev pub liveness-behind : Tape → List ℕ → code.Operand → liveness.Liveness
+liveness-behind t serials (code.the-variants.Number v) = liveness.the-variants.NotLive
+liveness-behind t serials (code.the-variants.Node h) = liveness-of (looked-up t serials h)
 
 -- ---- plans
 

@@ -10,8 +10,9 @@ ghost use mathlib.Core.List.{_++_};
 ghost use lib.ListN.{length, drop, replicate};
 ghost use Rattle.tape.specs.Numbers.{floats};
 ghost use Rattle.tape.specs.Machine.{machine, lent-after, lent-before};
-ghost use Rattle.tape.specs.Calls.{step, clear};
-ghost use Rattle.dual.specs.Outcome.{reset};
+ghost use Rattle.tape.specs.Calls.{clear};
+ghost use Rattle.tape.specs.Steps.{step};
+ghost use Rattle.dual.specs.Outcome.{cleared-outcome};
 
 // What clearing answers: that it was done, or the refusal.
 pub enum Cleared {
@@ -30,7 +31,7 @@ pub fn reset_adjoints(
     partial: &[f64],
 ) -> Cleared
     ensures { λ x. ⌜
-        reset x (machine tape (lent-after value adjoint serial count child partial))
+        cleared-outcome x (machine tape (lent-after value adjoint serial count child partial))
         ≡ step clear (machine tape (lent-before value adjoint serial count child partial)) ⌝ }
 {
     match tape.admit(

@@ -11,8 +11,9 @@ ghost use lib.Ieee.{Float};
 ghost use Rattle.tape.specs.Numbers.{floats};
 ghost use Rattle.tape.specs.Machine.{arrays, machine, lent-after, lent-before};
 ghost use Rattle.tape.specs.Handles.{operand};
-ghost use Rattle.tape.specs.Calls.{step, pass, backward, backward-to-mark, backward-mark-to-start, propagate-to-mark, propagate-mark-to-start};
-ghost use Rattle.dual.specs.Outcome.{passed-back};
+ghost use Rattle.tape.specs.Calls.{pass, backward, backward-to-mark, backward-mark-to-start, propagate-to-mark, propagate-mark-to-start};
+ghost use Rattle.tape.specs.Steps.{step};
+ghost use Rattle.dual.specs.Outcome.{pass-outcome};
 ghost use Rattle.dual.specs.Inner.{pass-of, Ready, carried-out};
 
 // What a pass answers: how many edges it visited, or the refusal.
@@ -33,7 +34,7 @@ pub fn backward(
     root: Operand,
 ) -> Passed
     ensures { λ x. ⌜
-        passed-back x (machine tape (lent-after value adjoint serial count child partial))
+        pass-outcome x (machine tape (lent-after value adjoint serial count child partial))
         ≡ step (pass (backward (operand root))) (machine tape (lent-before value adjoint serial count child partial)) ⌝ }
 {
     run(
@@ -60,7 +61,7 @@ pub fn backward_to_mark(
     root: Operand,
 ) -> Passed
     ensures { λ x. ⌜
-        passed-back x (machine tape (lent-after value adjoint serial count child partial))
+        pass-outcome x (machine tape (lent-after value adjoint serial count child partial))
         ≡ step (pass (backward-to-mark (operand root))) (machine tape (lent-before value adjoint serial count child partial)) ⌝ }
 {
     run(
@@ -87,7 +88,7 @@ pub fn backward_mark_to_start(
     root: Operand,
 ) -> Passed
     ensures { λ x. ⌜
-        passed-back x (machine tape (lent-after value adjoint serial count child partial))
+        pass-outcome x (machine tape (lent-after value adjoint serial count child partial))
         ≡ step (pass (backward-mark-to-start (operand root))) (machine tape (lent-before value adjoint serial count child partial)) ⌝ }
 {
     run(
@@ -113,7 +114,7 @@ pub fn propagate_to_mark(
     partial: &[f64],
 ) -> Passed
     ensures { λ x. ⌜
-        passed-back x (machine tape (lent-after value adjoint serial count child partial))
+        pass-outcome x (machine tape (lent-after value adjoint serial count child partial))
         ≡ step (pass propagate-to-mark) (machine tape (lent-before value adjoint serial count child partial)) ⌝ }
 {
     run(
@@ -139,7 +140,7 @@ pub fn propagate_mark_to_start(
     partial: &[f64],
 ) -> Passed
     ensures { λ x. ⌜
-        passed-back x (machine tape (lent-after value adjoint serial count child partial))
+        pass-outcome x (machine tape (lent-after value adjoint serial count child partial))
         ≡ step (pass propagate-mark-to-start) (machine tape (lent-before value adjoint serial count child partial)) ⌝ }
 {
     run(
@@ -165,7 +166,7 @@ fn run(
     partial: &[f64],
 ) -> Passed
     ensures { λ x. ⌜
-        passed-back x (machine tape (lent-after value adjoint serial count child partial))
+        pass-outcome x (machine tape (lent-after value adjoint serial count child partial))
         ≡ step (pass (pass-of which)) (machine tape (lent-before value adjoint serial count child partial)) ⌝ }
 {
     let planned = crate::planning::plan(which, tape, value, adjoint, serial, count, child, partial);
@@ -182,7 +183,7 @@ fn carry_out(
 ) -> Passed
     requires { ⌜ Ready planned (now adjoint) (now count) (now child) (now partial) ⌝ }
     ensures { λ x. ⌜ ((t : Tape) (v : List Float) (s : List ℕ)
-        → passed-back x (machine t (arrays {N = floats} v (now (adjoint .exit)) s (now (count .entry)) (now (child .entry)) (now (partial .entry))))
+        → pass-outcome x (machine t (arrays {N = floats} v (now (adjoint .exit)) s (now (count .entry)) (now (child .entry)) (now (partial .entry))))
         ≡ carried-out planned (machine t (arrays v (now (adjoint .entry)) s (now (count .entry)) (now (child .entry)) (now (partial .entry))))) ⌝ }
 {
     match planned {

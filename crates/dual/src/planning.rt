@@ -12,12 +12,12 @@ ghost use Prim.Native.Nat.{_≤_};
 ghost use mathlib.Core.Path.{_≡_};
 ghost use mathlib.Core.Bool.{cond};
 ghost use mathlib.Core.List.{[], _∷_};
-ghost use Rattle.tape.specs.Numbers.{floats};
 ghost use Rattle.tape.specs.Machine.{machine, most-nodes, lent-before};
 ghost use Rattle.tape.specs.Handles.{node, operand};
-ghost use Rattle.tape.specs.Calls.{step, pass, plan as Calls·plan, past, admission};
-ghost use Rattle.tape.specs.Answers.{admitted};
-ghost use Rattle.tape.specs.declared.state.Caller.the-variants as caller;
+ghost use Rattle.tape.specs.Calls.{pass, plan as Calls·plan, past};
+ghost use Rattle.tape.specs.Admission.{admission, admitted};
+ghost use Rattle.tape.specs.Steps.{step};
+ghost use Rattle.tape.specs.declared.admission.Caller.the-variants as caller;
 ghost use Rattle.dual.specs.Inner.{EdgeRoom, Within, Ready, pass-of, root-if, found-root, span-of, carried-out, all-sound, sound-edges};
 
 // The five passes, under the names of their calls, with the root of those that have one.

@@ -11,12 +11,12 @@ use tape::Usable;
 ghost use Prim.Native.Nat.{_≤_};
 ghost use mathlib.Core.Path.{_≡_};
 ghost use lib.ListN.{length};
-ghost use Rattle.tape.specs.Numbers.{floats};
 ghost use Rattle.tape.specs.Machine.{machine, lent-before};
 ghost use Rattle.tape.specs.Handles.{operand};
-ghost use Rattle.tape.specs.Calls.{step, value-of, adjoint-of, is-live};
-ghost use Rattle.dual.specs.Outcome.{heard, found};
-ghost use Rattle.dual.specs.Inner.{behind-node, told-of, value-behind, adjoint-behind, liveness-of};
+ghost use Rattle.tape.specs.Calls.{value-of, adjoint-of, is-live};
+ghost use Rattle.tape.specs.Steps.{step};
+ghost use Rattle.dual.specs.Outcome.{read-outcome, liveness-outcome};
+ghost use Rattle.dual.specs.Inner.{behind-node, liveness-of, value-behind, adjoint-behind, liveness-behind};
 
 // What a read answers: the number that was asked for, or the refusal.
 pub enum Read {
@@ -43,7 +43,7 @@ pub fn value(
     x: Operand,
 ) -> Read
     ensures { λ a. ⌜
-        heard a (machine tape (lent-before value adjoint serial count child partial))
+        read-outcome a (machine tape (lent-before value adjoint serial count child partial))
         ≡ step (value-of (operand x)) (machine tape (lent-before value adjoint serial count child partial)) ⌝ }
 {
     match tape.admit(
@@ -67,7 +67,7 @@ pub fn adjoint(
     x: Operand,
 ) -> Read
     ensures { λ a. ⌜
-        heard a (machine tape (lent-before value adjoint serial count child partial))
+        read-outcome a (machine tape (lent-before value adjoint serial count child partial))
         ≡ step (adjoint-of (operand x)) (machine tape (lent-before value adjoint serial count child partial)) ⌝ }
 {
     match tape.admit(
@@ -91,7 +91,7 @@ pub fn is_live(
     x: Operand,
 ) -> Liveness
     ensures { λ a. ⌜
-        found a (machine tape (lent-before value adjoint serial count child partial))
+        liveness-outcome a (machine tape (lent-before value adjoint serial count child partial))
         ≡ step (is-live (operand x)) (machine tape (lent-before value adjoint serial count child partial)) ⌝ }
 {
     match tape.admit(
@@ -99,7 +99,7 @@ pub fn is_live(
         Lengths::of(value, adjoint, serial, count, child, partial),
     ) {
         Admission::Refused(refusal) => Liveness::Refused(refusal),
-        Admission::Granted => liveness_of(x, tape, serial),
+        Admission::Granted => liveness_behind(x, tape, serial),
     }
 }
 
@@ -123,12 +123,12 @@ fn adjoint_behind(x: Operand, tape: Tape, serial: &[u64], adjoint: &[f64]) -> Re
     }
 }
 
-fn liveness_of(x: Operand, tape: Tape, serial: &[u64]) -> Liveness
-    ensures { λ a. ⌜ a ≡ liveness-of tape (now (serial .entry)) x ⌝ }
+fn liveness_behind(x: Operand, tape: Tape, serial: &[u64]) -> Liveness
+    ensures { λ a. ⌜ a ≡ liveness-behind tape (now (serial .entry)) x ⌝ }
 {
     match x {
         Operand::Number(_) => Liveness::NotLive,
-        Operand::Node(handle) => told(handle.lookup(tape, serial)),
+        Operand::Node(handle) => liveness_of(handle.lookup(tape, serial)),
     }
 }
 
@@ -146,8 +146,8 @@ fn behind(handle: Handle, tape: Tape, serial: &[u64], held: &[f64]) -> Read
     }
 }
 
-fn told(lookup: Lookup) -> Liveness
-    ensures { λ x. ⌜ x ≡ told-of lookup ⌝ }
+fn liveness_of(lookup: Lookup) -> Liveness
+    ensures { λ x. ⌜ x ≡ liveness-of lookup ⌝ }
 {
     match lookup {
         Lookup::Live => Liveness::Live,

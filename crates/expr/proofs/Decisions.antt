@@ -2,31 +2,30 @@
 use Prim.Native.Nat.{ℕ, _+_, _≤_, _<_}
 use native.Mathlib.Omega.{arith}
 use mathlib.Core.Path.{_≡_, refl, sym, ap, subst, _∙_}
-use mathlib.Core.Bool.{Bool, true, false, cond}
 use mathlib.Core.List.{List, [], _∷_, _++_, append-nil}
 use mathlib.Core.Option.{Option, none, some}
 use lib.Ieee.{Float}
 use Rattle.tape.specs.Numbers.{floats}
 use Rattle.tape.specs.Walk.{Edge}
-use Rattle.tape.specs.Machine.{arrays-fit, state-fits}
-use Rattle.tape.specs.Calls.{edge, first, admission as Calls·admission}
-use Rattle.tape.specs.declared.state.Caller.the-variants as caller
-use Rattle.tape.specs.declared.state.Lengths.{Lengths}
+use Rattle.tape.specs.Calls.{edge}
+use Rattle.tape.specs.declared.admission.Caller.the-variants as caller
+use Rattle.tape.specs.declared.admission.Lengths.{Lengths}
 use Rattle.tape.proofs.Steps.{unhit}
 use Rattle.tape.proofs.Tests.{every}
 use borrow.Author.Tests.{leb-true, not-false}
-use Rattle.tape.specs.Handles.{operand, lives, amiss, usable-as}
-use Rattle.tape.specs.Answers.{admitted}
+use Rattle.tape.specs.Handles.{operand, usable-as}
+use Rattle.tape.specs.Admission.{arrays-fit, state-fits, admission as Calls·admission}
+use Rattle.tape.specs.Refusals.{first}
 use Rattle.tape.specs.declared.errors.Refusal.{Refusal}
 use Rattle.tape.specs.declared.node.Handle.{Handle}
 use Rattle.tape.specs.declared.node.Operand.{Operand}
 use Rattle.tape.specs.declared.node.Operand.the-variants.{Number, Node}
 use Rattle.tape.specs.declared.node.Usable.{Usable}
 use Rattle.tape.specs.declared.node.Usable.the-variants as usable
-use Rattle.tape.specs.declared.state.Admission.the-variants as admission
-use Rattle.tape.specs.declared.state.Tape.{Tape}
+use Rattle.tape.specs.declared.admission.Admission.the-variants as admission
+use Rattle.tape.specs.declared.tape.Tape.{Tape}
 use Rattle.tape.proofs.Lookups.{below}
-use Rattle.expr.specs.Inner.{Small, Decides, edges-told, usable-operand, both-usable, refusal-in, row-refusal, row-value, row-edges}
+use Rattle.expr.specs.Inner.{Small, Decides, edges-in, usable-operand, both-usable, refusal-in, row-refusal, row-value, row-edges}
 use Rattle.expr.specs.declared.edges.Edges.{Edges}
 use Rattle.expr.specs.declared.operations.Row.{Row}
 use Rattle.expr.specs.declared.recording.Decision.{Decision}
@@ -40,7 +39,7 @@ refused-so d k s l r (a, f) = record { admission = a; value = λ n. not-some n; 
 pub usable-refused : (d : Decision) (u : Usable) (k : Refusal) (s : Row) (l r : Operand) → u ≡ usable.Refused k → (d .admission ≡ admission.Refused k) × (d .edges .count ≤ 2) → Decides d (refusal-in u) s l r
 usable-refused d u k s l r e a = subst (λ u. Decides d (refusal-in u) s l r) (sym e) (refused-so d k s l r a)
 
-pub usable-granted : (d : Decision) (u : Usable) (v : Float) (es : Edges) (s : Row) (l r : Operand) → u ≡ usable.Live → d ≡ record { admission = admission.Granted; value = v; edges = es } → v ≡ row-value s → edges-told es ≡ row-edges s l r → es .count ≤ 2 → Decides d (refusal-in u) s l r
+pub usable-granted : (d : Decision) (u : Usable) (v : Float) (es : Edges) (s : Row) (l r : Operand) → u ≡ usable.Live → d ≡ record { admission = admission.Granted; value = v; edges = es } → v ≡ row-value s → edges-in es ≡ row-edges s l r → es .count ≤ 2 → Decides d (refusal-in u) s l r
 usable-granted d u v es s l r e same value edges few =
     subst (λ u. Decides d (refusal-in u) s l r) (sym e)
     (subst (λ d. Decides d none s l r) (sym same) (record { admission = refl; value = λ _. value; edges = λ _. edges; few = few }))

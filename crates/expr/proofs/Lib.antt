@@ -1,4 +1,4 @@
-pub mod Decided
+pub mod Stepped
 pub mod Decisions
 pub mod Lists
 pub mod Table

@@ -3,8 +3,9 @@ use mathlib.Core.Path.{_≡_}
 use mathlib.Core.Bool.{true}
 use native.Mathlib.Omega.{arith}
 use Rattle.tape.specs.Numbers.{floats}
-use Rattle.tape.specs.Machine.{Arrays, machine, capacity, fits}
-use Rattle.tape.specs.declared.state.Tape.{Tape}
+use Rattle.tape.specs.Machine.{Arrays, machine, capacity}
+use Rattle.tape.specs.Admission.{fits}
+use Rattle.tape.specs.declared.tape.Tape.{Tape}
 use Rattle.tape.proofs.Tests.{Fit, fit}
 use Rattle.expr.specs.Inner.{Room}
 

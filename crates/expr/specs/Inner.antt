@@ -13,19 +13,20 @@ use Rattle.tape.specs.Handles.{usable-as}
 use Rattle.tape.specs.Handles as Handles
 use Rattle.tape.specs.Operations.{row, known, apply}
 use Rattle.tape.specs.Operations as operations
-use Rattle.tape.specs.Answers.{Answer, refused, detached, recorded, admitted}
+use Rattle.tape.specs.Answers.{Answer, refused, detached, recorded}
 use Rattle.tape.specs.Walk.{Edge, edges-from}
-use Rattle.tape.specs.Calls.{issued, written, last-serial, edge, admission, first}
+use Rattle.tape.specs.Calls.{issued, written, edge}
+use Rattle.tape.specs.Admission.{admitted, admission}
+use Rattle.tape.specs.Refusals.{last-serial, first}
 use Rattle.tape.specs.declared.errors.Refusal.{Refusal}
 use Rattle.tape.specs.declared.errors.Refusal.the-variants.{UnknownOperation, Full, SerialsSpent}
-use Rattle.tape.specs.declared.node.Handle.{Handle}
 use Rattle.tape.specs.declared.node.Usable.{Usable}
 use Rattle.tape.specs.declared.node.Usable.the-variants as usable
 use Rattle.tape.specs.declared.node.Operand.{Operand}
 use Rattle.tape.specs.declared.node.Operand.the-variants as operand
-use Rattle.tape.specs.declared.state.Caller.the-variants as caller
-use Rattle.tape.specs.declared.state.Lengths.{Lengths}
-use Rattle.tape.specs.declared.state.Tape.{Tape}
+use Rattle.tape.specs.declared.admission.Caller.the-variants as caller
+use Rattle.tape.specs.declared.admission.Lengths.{Lengths}
+use Rattle.tape.specs.declared.tape.Tape.{Tape}
 use Rattle.expr.specs.Outcome.{given}
 use Rattle.expr.specs.declared.operations.Row.{Row}
 use Rattle.expr.specs.declared.operations.Row.the-variants as code
@@ -38,8 +39,8 @@ abbrev pub Small : Operand → Type 0
 Small (operand.Number x) = Unit {0}
 Small (operand.Node h) = h .index < 65536
 
-abbrev pub edges-told : Edges → List (Edge floats)
-edges-told e = edges-from (e .child) (e .weight) 0 (e .count)
+abbrev pub edges-in : Edges → List (Edge floats)
+edges-in e = edges-from (e .child) (e .weight) 0 (e .count)
 
 -- ---- who is live
 
@@ -57,16 +58,16 @@ refusal-in (usable.Refused r) = some r
 
 -- ---- the row
 
-abbrev pub worth-in : List Float → Operand → Float
-worth-in values (operand.Number x) = x
-worth-in values (operand.Node h) = getD values (h .index) nan
+abbrev pub operand-value-in : List Float → Operand → Float
+operand-value-in values (operand.Number x) = x
+operand-value-in values (operand.Node h) = getD values (h .index) nan
 
 -- the row that the code's answer holds, and whether the table has one
-abbrev pub told-row : Row → Bool × operations.Row floats
-told-row code.Unknown = (false, row nan none none)
-told-row (code.Leaf v) = (true, row v none none)
-told-row (code.One v p) = (true, row v (some p) none)
-told-row (code.Two v p q) = (true, row v (some p) (some q))
+abbrev pub row-in : Row → Bool × operations.Row floats
+row-in code.Unknown = (false, row nan none none)
+row-in (code.Leaf v) = (true, row v none none)
+row-in (code.One v p) = (true, row v (some p) none)
+row-in (code.Two v p q) = (true, row v (some p) (some q))
 
 abbrev pub row-by : Float → Option Float → Option Float → Row
 row-by v none q = code.Leaf v
@@ -79,7 +80,7 @@ row-of false s = code.Unknown
 row-of true s = row-by (s .value) (s .left) (s .right)
 
 abbrev pub row-for : List Float → ℕ → Operand → Operand → Supplied → Row
-row-for values op left right g = row-of (known op) (apply op (worth-in values left) (worth-in values right) (given g))
+row-for values op left right g = row-of (known op) (apply op (operand-value-in values left) (operand-value-in values right) (given g))
 
 -- ---- the node that a row makes
 
@@ -105,25 +106,25 @@ row-edges (code.Two v p q) left right = edge (Handles.operand left) (some p) ++ 
 pub record Decides (x : Decision) (o : Option Refusal) (s : Row) (left right : Operand) : Type 0 where
   pub admission : x .admission ≡ admitted o
   pub value : o ≡ none → x .value ≡ row-value s
-  pub edges : o ≡ none → edges-told (x .edges) ≡ row-edges s left right
+  pub edges : o ≡ none → edges-in (x .edges) ≡ row-edges s left right
   pub few : x .edges .count ≤ 2
 
-abbrev pub decided-refusal : Tape → Lengths → List ℕ → Row → Operand → Operand → Option Refusal
-decided-refusal t n serials s left right = first (admission caller.Recording n t ∷ row-refusal s (usable-operand t serials left) (usable-operand t serials right) ∷ [])
+abbrev pub recording-refusal : Tape → Lengths → List ℕ → Row → Operand → Operand → Option Refusal
+recording-refusal t n serials s left right = first (admission caller.Recording n t ∷ row-refusal s (usable-operand t serials left) (usable-operand t serials right) ∷ [])
 
 -- ---- room, and the node's place
 
-abbrev pub kept : Machine floats → Float → List (Edge floats) → Answer floats × Machine floats
-kept M v es = (recorded v (issued (M .state)), written M v es)
+abbrev pub appended : Machine floats → Float → List (Edge floats) → Answer floats × Machine floats
+appended M v es = (recorded v (issued (M .state)), written M v es)
 
-abbrev pub settled : Machine floats → Float → List (Edge floats) → Answer floats × Machine floats
-settled M v es =
+abbrev pub recorded-if-room : Machine floats → Float → List (Edge floats) → Answer floats × Machine floats
+recorded-if-room M v es =
     cond
     (M .state .active)
     (cond
     (eqb (M .state .length) (capacity (M .lent)))
     (refused Full, M)
-    (cond (eqb (M .state .next) last-serial) (refused SerialsSpent, M) (kept M v es)))
+    (cond (eqb (M .state .next) last-serial) (refused SerialsSpent, M) (appended M v es)))
     (detached v, M)
 
 pub record Room (i : ℕ) (A : Arrays floats) : Type 0 where

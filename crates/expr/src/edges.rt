@@ -8,7 +8,7 @@ ghost use lib.ListN.{length};
 ghost use lib.Seq.{sets};
 ghost use Rattle.tape.specs.Handles.{operand};
 ghost use Rattle.tape.specs.Calls.{edge};
-ghost use Rattle.expr.specs.Inner.{Small, edges-told};
+ghost use Rattle.expr.specs.Inner.{Small, edges-in};
 
 pub(crate) struct Edges {
     pub count: usize,
@@ -18,7 +18,7 @@ pub(crate) struct Edges {
 
 impl Edges {
     pub(crate) fn none() -> Edges
-        ensures { λ x. ⌜ (edges-told x ≡ []) × (x .count ≡ 0) ⌝ }
+        ensures { λ x. ⌜ (edges-in x ≡ []) × (x .count ≡ 0) ⌝ }
     {
         let child = [0; 2];
         let weight = [0.0; 2];
@@ -32,7 +32,7 @@ impl Edges {
     // One edge more, if the operand stands on the tape.
     pub(crate) fn with(self, x: Operand, weight: f64) -> Edges
         requires { ⌜ (self .count < 2) × Small x ⌝ }
-        ensures { λ e. ⌜ (edges-told e ≡ edges-told self ++ edge (operand x) (some weight)) × (e .count ≤ self .count + 1) ⌝ }
+        ensures { λ e. ⌜ (edges-in e ≡ edges-in self ++ edge (operand x) (some weight)) × (e .count ≤ self .count + 1) ⌝ }
     {
         match x {
             Operand::Number(_) => self,
@@ -42,7 +42,7 @@ impl Edges {
 
     fn push(self, to: u16, by: f64) -> Edges
         requires { ⌜ self .count < 2 ⌝ }
-        ensures { λ x. ⌜ (edges-told x ≡ edges-told self ++ (record { child = to; weight = by } ∷ [])) × (x .count ≡ self .count + 1) ⌝ }
+        ensures { λ x. ⌜ (edges-in x ≡ edges-in self ++ (record { child = to; weight = by } ∷ [])) × (x .count ≡ self .count + 1) ⌝ }
     {
         let n = self.count;
         let mut child = self.child;
@@ -59,8 +59,8 @@ impl Edges {
     // Writes the edges from a slot on. There is no loop in it: one whose length is not known made a recording slower by a half.
     pub(crate) fn write(self, slot: usize, child: &mut [u16], partial: &mut [f64])
         requires { ⌜ (self .count ≤ 2) × (slot + 2 ≤ length (now child)) × (slot + 2 ≤ length (now partial)) ⌝ }
-        ensures { λ _. ⌜ now (child .exit) ≡ sets (now (child .entry)) slot (map (λ e. e .child) (edges-told self)) ⌝ }
-        ensures { λ _. ⌜ now (partial .exit) ≡ sets (now (partial .entry)) slot (map (λ e. e .weight) (edges-told self)) ⌝ }
+        ensures { λ _. ⌜ now (child .exit) ≡ sets (now (child .entry)) slot (map (λ e. e .child) (edges-in self)) ⌝ }
+        ensures { λ _. ⌜ now (partial .exit) ≡ sets (now (partial .entry)) slot (map (λ e. e .weight) (edges-in self)) ⌝ }
     {
         let children = self.child;
         let weights = self.weight;

@@ -17,11 +17,14 @@ ghost use mathlib.Core.Bool.{true};
 ghost use lib.Ieee.{nan};
 ghost use lib.ListN.{getD};
 ghost use Rattle.tape.specs.Numbers.{floats};
-ghost use Rattle.tape.specs.Machine.{arrays, machine, fits, lent-after, lent-before};
+ghost use Rattle.tape.specs.Machine.{arrays, machine, lent-after, lent-before};
 ghost use Rattle.tape.specs.Handles.{operand};
-ghost use Rattle.tape.specs.Calls.{step, operate, with-node, last-serial};
+ghost use Rattle.tape.specs.Calls.{operate, with-node};
+ghost use Rattle.tape.specs.Admission.{fits};
+ghost use Rattle.tape.specs.Refusals.{last-serial};
+ghost use Rattle.tape.specs.Steps.{step};
 ghost use Rattle.expr.specs.Outcome.{given, outcome};
-ghost use Rattle.expr.specs.Inner.{Small, Room, Decides, decided-refusal, row-for, usable-operand, both-usable, worth-in, row-refusal, refusal-in, edges-told, kept, settled};
+ghost use Rattle.expr.specs.Inner.{Small, Room, Decides, recording-refusal, row-for, usable-operand, both-usable, operand-value-in, row-refusal, refusal-in, edges-in, appended, recorded-if-room};
 
 // What a recording answers: a value and its node's handle, or a value alone where the tape is inactive, with the state after it; or the refusal and the state as it was.
 pub enum Recorded {
@@ -55,7 +58,7 @@ pub fn record(
         Admission::Refused(refusal) => Recorded::Refused(refusal, tape),
         Admission::Granted => {
             let edges = decision.edges;
-            settle(
+            record_if_room(
                 tape,
                 value,
                 adjoint,
@@ -111,13 +114,13 @@ fn decide(
     right: Operand,
     supplied: Supplied,
 ) -> Decision
-    ensures { λ x. ⌜ Decides x (decided-refusal tape lent (now (serial .entry)) (row-for (now (value .entry)) op left right supplied) left right) (row-for (now (value .entry)) op left right supplied) left right ⌝ }
+    ensures { λ x. ⌜ Decides x (recording-refusal tape lent (now (serial .entry)) (row-for (now (value .entry)) op left right supplied) left right) (row-for (now (value .entry)) op left right supplied) left right ⌝ }
 {
     match tape.admit(Caller::Recording, lent) {
         Admission::Refused(refusal) => refused(refusal),
         Admission::Granted => {
-            let l = worth(left, value);
-            let r = worth(right, value);
+            let l = operand_value(left, value);
+            let r = operand_value(right, value);
             let row = crate::operations::apply(op, l, r, supplied);
             make(tape, serial, row, left, right)
         }
@@ -148,8 +151,8 @@ fn usable_both(left: Operand, right: Operand, tape: Tape, serial: &[u64]) -> Usa
 // ---- the row
 
 // A number's value, or the value at a handle's index, live or not; past the end there is none.
-fn worth(x: Operand, value: &[f64]) -> f64
-    ensures { λ v. ⌜ v ≡ worth-in (now (value .entry)) x ⌝ }
+fn operand_value(x: Operand, value: &[f64]) -> f64
+    ensures { λ v. ⌜ v ≡ operand-value-in (now (value .entry)) x ⌝ }
 {
     match x {
         Operand::Number(v) => v,
@@ -175,14 +178,7 @@ fn make(tape: Tape, serial: &[u64], row: Row, left: Operand, right: Operand) -> 
         Row::Unknown => refused(Refusal::UnknownOperation),
         Row::Leaf(v) => make_leaf(usable(left, tape, serial), v),
         Row::One(v, p) => make_one(usable(left, tape, serial), left, v, p),
-        Row::Two(v, p, q) => make_two(
-            usable_both(left, right, tape, serial),
-            left,
-            v,
-            p,
-            right,
-            q,
-        ),
+        Row::Two(v, p, q) => make_two(usable_both(left, right, tape, serial), left, v, p, right, q),
     }
 }
 
@@ -218,7 +214,7 @@ fn make_two(usable: Usable, left: Operand, v: f64, p: f64, right: Operand, q: f6
 // ---- the write
 
 // Keeps the node if the tape is active and has room for it.
-fn settle(
+fn record_if_room(
     tape: Tape,
     value: &mut [f64],
     adjoint: &mut [f64],
@@ -232,7 +228,7 @@ fn settle(
     requires { ⌜ (edges .count ≤ 2) × (fits true (machine tape (arrays {N = floats} (now value) (now adjoint) (now serial) (now count) (now child) (now partial))) ≡ true) ⌝ }
     ensures { λ x. ⌜
         outcome x (lent-after value adjoint serial count child partial)
-        ≡ settled (machine tape (lent-before value adjoint serial count child partial)) v (edges-told edges) ⌝ }
+        ≡ recorded-if-room (machine tape (lent-before value adjoint serial count child partial)) v (edges-in edges) ⌝ }
 {
     if !tape.active {
         return Recorded::Detached(v, tape);
@@ -243,7 +239,7 @@ fn settle(
     if tape.next == LAST_SERIAL {
         return Recorded::Refused(Refusal::SerialsSpent, tape);
     }
-    keep(
+    append(
         tape,
         value,
         adjoint,
@@ -256,7 +252,7 @@ fn settle(
     )
 }
 
-fn keep(
+fn append(
     tape: Tape,
     value: &mut [f64],
     adjoint: &mut [f64],
@@ -270,7 +266,7 @@ fn keep(
     requires { ⌜ (edges .count ≤ 2) × (tape .next < last-serial) × Room (tape .length) (arrays {N = floats} (now value) (now adjoint) (now serial) (now count) (now child) (now partial)) ⌝ }
     ensures { λ x. ⌜
         outcome x (lent-after value adjoint serial count child partial)
-        ≡ kept (machine tape (lent-before value adjoint serial count child partial)) v (edges-told edges) ⌝ }
+        ≡ appended (machine tape (lent-before value adjoint serial count child partial)) v (edges-in edges) ⌝ }
 {
     let handle = Handle {
         index: tape.length,
@@ -306,7 +302,7 @@ fn write(
 )
     requires { ⌜ (edges .count ≤ 2) × Room (handle .index) (arrays {N = floats} (now value) (now adjoint) (now serial) (now count) (now child) (now partial)) ⌝ }
     ensures { λ _. ⌜ arrays {N = floats} (now (value .exit)) (now (adjoint .exit)) (now (serial .exit)) (now (count .exit)) (now (child .exit)) (now (partial .exit))
-        ≡ with-node handle (lent-before value adjoint serial count child partial) v (edges-told edges) ⌝ }
+        ≡ with-node handle (lent-before value adjoint serial count child partial) v (edges-in edges) ⌝ }
 {
     let at = handle.index;
     value[at] = v;

@@ -10,7 +10,7 @@ use Rattle.tape.specs.Machine.{Arrays, machine}
 use Rattle.tape.specs.Walk.{indexes}
 use Rattle.text.specs.Numerals.{decimal}
 use Rattle.tape.specs.Listing.{header, line, lines, listing}
-use Rattle.tape.specs.declared.state.Tape.{Tape}
+use Rattle.tape.specs.declared.tape.Tape.{Tape}
 use Rattle.tape.proofs.Ranges.{nothing-left, indexes-first}
 use Rattle.listing.specs.Inner.{shown}
 use Rattle.text.proofs.Numerals.{length-hex}

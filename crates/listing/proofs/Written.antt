@@ -13,10 +13,11 @@ use Rattle.tape.specs.Machine.{Machine}
 use Rattle.tape.specs.Walk.{indexes}
 use Rattle.tape.specs.Listing.{header, lines, listing}
 use Rattle.tape.specs.Answers.{refused, counted}
-use Rattle.tape.specs.Calls.{let-in, step}
+use Rattle.tape.specs.Admission.{let-in}
+use Rattle.tape.specs.Steps.{step}
 use Rattle.tape.specs.declared.errors.Refusal.{Refusal}
 use Rattle.tape.specs.declared.errors.Refusal.the-variants.{ListingTooLong}
-use Rattle.tape.specs.declared.state.Caller.the-variants as caller
+use Rattle.tape.specs.declared.admission.Caller.the-variants as caller
 use Rattle.tape.proofs.OneToOne.{not-nought}
 use Rattle.listing.specs.Outcome.{listed}
 use Rattle.text.specs.Inner.{Wrote}

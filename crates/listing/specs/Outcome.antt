@@ -9,7 +9,8 @@ use Rattle.tape.specs.Numbers.{floats}
 use Rattle.tape.specs.Machine.{Machine}
 use Rattle.tape.specs.Listing.{listing}
 use Rattle.tape.specs.Answers.{Answer, refused, counted}
-use Rattle.tape.specs.Calls.{step, list}
+use Rattle.tape.specs.Calls.{list}
+use Rattle.tape.specs.Steps.{step}
 use Rattle.listing.specs.declared.listing.Listed.{Listed}
 use Rattle.listing.specs.declared.listing.Listed.the-variants.{Written, Refused}
 
@@ -24,5 +25,5 @@ listed M lent =
     (x, cond (eqb (x .0 .number) 0) (listing M ++ drop (length (listing M)) lent) lent)
 
 -- no two answers say the same. Proved in proofs/OneToOne.antt
-abbrev pub Told : Type 0
-Told = (x y : Listed) (M : Machine floats) → outcome x M ≡ outcome y M → x ≡ y
+abbrev pub OneToOne : Type 0
+OneToOne = (x y : Listed) (M : Machine floats) → outcome x M ≡ outcome y M → x ≡ y

@@ -8,10 +8,12 @@ use mathlib.Core.Option.{Option, none, some}
 use Rattle.tape.specs.Numbers.{Numbers}
 use Rattle.tape.specs.Machine.{Machine}
 use Rattle.tape.specs.Answers.{number}
-use Rattle.tape.specs.Calls.{Call, refusal-of, unless, carried, step}
+use Rattle.tape.specs.Calls.{Call, carried}
+use Rattle.tape.specs.Refusals.{refusal-of}
+use Rattle.tape.specs.Steps.{unless, step}
 use Rattle.tape.specs.declared.errors.Refusal.{Refusal}
 use Rattle.tape.specs.declared.errors.Refusal.the-variants.{Misshapen, UnknownOperation, NotLive, Detached, Full, SerialsSpent, UnsoundEdge, ListingTooLong}
-use Rattle.tape.proofs.OneToOne.{by-number, at-refusal, told}
+use Rattle.tape.proofs.OneToOne.{by-number, at-refusal, one-to-one}
 use Rattle.tape.proofs.Passes.{carried-number}
 use Rattle.revolutions.specs.Answered.{among, Demand1}
 
@@ -26,7 +28,7 @@ not-nought r e = let z : _≡_ {A = ℕ} 0 1 = sym (at-refusal 1 (λ _. 0) r) �
 -- the number of what a first refusal, or none, gives
 then : {N : Numbers} (c : Call N) (M : Machine N) (o : Option Refusal) (r : Refusal) → unless o M (carried c M) .0 .number ≡ number r → o ≡ some r
 then c M none r e = absurd (not-nought r (sym e ∙ carried-number c M))
-then c M (some q) r e = ap some (told .numbers q r e)
+then c M (some q) r e = ap some (one-to-one .numbers q r e)
 
 listed : (r : Refusal) → among (number r) (1 ∷ 2 ∷ 3 ∷ 4 ∷ 5 ∷ 6 ∷ 7 ∷ 8 ∷ []) ≡ true
 listed Misshapen = refl

@@ -12,7 +12,7 @@ use Rattle.tape.specs.Numbers.{Numbers}
 use Rattle.tape.specs.Machine.{Arrays, Machine, machine, slot}
 use Rattle.tape.specs.Walk.{Edge, edges-at, indexes}
 use Rattle.tape.specs.Calls.{start, set-mark, rewind-to-mark, moved, written, with-adjoints}
-use Rattle.tape.specs.declared.state.Tape.{Tape}
+use Rattle.tape.specs.declared.tape.Tape.{Tape}
 use Rattle.tape.proofs.Ranges.{length-indexes, indexes-append}
 use Rattle.tape.proofs.Recording.{edges-stored, edges-before}
 use Rattle.tape.proofs.Steps.{Ready, last-or-below}

@@ -10,12 +10,13 @@ use lib.ListN.{length, getD, drop, replicate, length-set, length-append, length-
 use lib.Seq.{getD-set-same, getD-set-other, length-sets}
 use Rattle.tape.specs.Numbers.{Numbers}
 use Rattle.tape.specs.Machine.{Arrays, Machine, machine, capacity, slot}
-use Rattle.tape.specs.Handles.{Operand, plain, node, worth}
+use Rattle.tape.specs.Handles.{Operand, plain, node, operand-value}
 use Rattle.tape.specs.Operations.{Given, apply}
 use Rattle.tape.specs.Walk.{Edge, edges-at}
 use Rattle.tape.specs.Answers.{Answer}
-use Rattle.tape.specs.Calls.{Call, Pass, move, start, set-mark, rewind-to-mark, operate, clear, pass, edges, with-adjoints, written, Plan, plan, range, seeded, walked as passed-back, carried, step}
-use Rattle.tape.specs.declared.state.Tape.{Tape}
+use Rattle.tape.specs.Calls.{Call, Pass, move, start, set-mark, rewind-to-mark, operate, clear, pass, edges, with-adjoints, written, Plan, plan, range, seeded, walked as passed-back, carried}
+use Rattle.tape.specs.Steps.{step}
+use Rattle.tape.specs.declared.tape.Tape.{Tape}
 use Rattle.tape.proofs.Passes.{Accepted}
 use Rattle.tape.proofs.Recording.{SoundNodes, sound-kept}
 use Rattle.tape.proofs.Steps.{shape, room, effect, last-or-below}
@@ -126,7 +127,7 @@ module _ {N : Numbers} {A : Arrays N} {m first k j : ℕ} {L : Machine N} (s : S
   recorded op left right g a =
       let f : Fit L = fit L (shape (a .passed)) in
       let not-full : L .state .length ≡ capacity (L .lent) → ⊥ = eqb-false _ _ (rw (s .active) at (room (a .passed))) in
-      let row = apply op (worth L left) (worth L right) g in
+      let row = apply op (operand-value L left) (operand-value L right) g in
       let At : Answer N × Machine N → Type 0 = λ x. SoundNodes (x .1) → Stands A m first k (suc j) (x .1) in
       onward (Stands A m first k (suc j)) (operate op left right g) L a (s .sound)
       (by-test At (L .state .active) (λ _. grown (row .value) (edges left right row) (omega arith) (omega arith)) (λ e. absurd (true≢false (sym (s .active) ∙ e))))

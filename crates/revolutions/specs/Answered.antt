@@ -8,7 +8,9 @@ use lib.Dec.{eqb}
 use Rattle.tape.specs.Numbers.{Numbers}
 use Rattle.tape.specs.Machine.{Machine}
 use Rattle.tape.specs.Answers.{answer, number}
-use Rattle.tape.specs.Calls.{Call, refusal-of, carried, step}
+use Rattle.tape.specs.Calls.{Call, carried}
+use Rattle.tape.specs.Refusals.{refusal-of}
+use Rattle.tape.specs.Steps.{step}
 use Rattle.tape.specs.declared.errors.Refusal.{Refusal}
 
 abbrev pub among : ℕ → List ℕ → Bool

@@ -11,7 +11,7 @@ use Rattle.tape.specs.Handles.{Operand, plain, node}
 use Rattle.tape.specs.Calls.{Call, adjoint-of, value-of, list}
 use Rattle.tape.specs.Kept.{fresh}
 use Rattle.tape.specs.Rows.{float, sevens, handle, given, node-at}
-use Rattle.revolutions.specs.Revolutions.{Operation, Revolution, Session, Turn, Meaning, turn, meaning, calls, long-tape, Plays, model-adjoints}
+use Rattle.revolutions.specs.Revolutions.{Operation, Revolution, Session, ResolvedRevolution, ResolvedSession, resolve-revolution, resolve, calls, long-tape, RunsAs, model-adjoints}
 use Rattle.revolutions.specs.Trading.{Apart, with-both}
 
 -- ---- the session
@@ -38,9 +38,9 @@ revolution i w k = record {
   root = handle 4 (k + 2);
 }
 
--- what it means, whatever the serials
-abbrev pub back : ℕ → Float → Turn floats
-back i w = turn 2 (revolution i w 0)
+-- what it resolves to, whatever the serials
+abbrev pub back : ℕ → Float → ResolvedRevolution floats
+back i w = resolve-revolution 2 (revolution i w 0)
 
 abbrev pub high : Float
 high = float (2 ^ 53)
@@ -62,16 +62,16 @@ swapped = record { model = model; revolutions = revolution 1 (float 3) 3 ∷ rev
 
 -- ---- rules that are not the long tape's
 
-abbrev pub first-only : Meaning floats → List Float
-first-only meant = long-tape (record { model = meant .model; turns = take 1 (meant .turns) })
+abbrev pub first-only : ResolvedSession floats → List Float
+first-only resolved = long-tape (record { model = resolved .model; revolutions = take 1 (resolved .revolutions) })
 
 -- the revolutions in the order in which they were recorded
-abbrev pub in-recording-order : Meaning floats → List Float
-in-recording-order meant = long-tape (record { model = meant .model; turns = reverse (meant .turns) })
+abbrev pub in-recording-order : ResolvedSession floats → List Float
+in-recording-order resolved = long-tape (record { model = resolved .model; revolutions = reverse (resolved .revolutions) })
 
 -- adjoints that no walk changes
-abbrev pub idle : Meaning floats → List Float
-idle meant = replicate 2 (float 0)
+abbrev pub idle : ResolvedSession floats → List Float
+idle resolve-operand = replicate 2 (float 0)
 
 -- ---- what is proved
 
@@ -79,14 +79,14 @@ abbrev pub bits : List Float → List ℕ
 bits = map (toBits binary64)
 
 -- the session's model adjoints are what a rule gives
-abbrev pub Meets : (Meaning floats → List Float) → Type 0
-Meets rule = model-adjoints three three-calls before ≡ rule (meaning three)
+abbrev pub Meets : (ResolvedSession floats → List Float) → Type 0
+Meets rule = model-adjoints three three-calls before ≡ rule (resolve three)
 
 -- the adjoint of x is 24 and that of x * x is 4, by the calls and by the long tape
 pub record Example : Type 0 where
-  pub plays : Plays three three-calls before
+  pub runs : RunsAs three three-calls before
   pub adjoints : bits (model-adjoints three three-calls before) ≡ 0x4038_0000_0000_0000 ∷ 0x4010_0000_0000_0000 ∷ []
-  pub long : bits (long-tape (meaning three)) ≡ 0x4038_0000_0000_0000 ∷ 0x4010_0000_0000_0000 ∷ []
+  pub long : bits (long-tape (resolve three)) ≡ 0x4038_0000_0000_0000 ∷ 0x4010_0000_0000_0000 ∷ []
   -- these rules are not met
   pub not-first-only : Meets first-only → ⊥
   pub not-in-recording-order : Meets in-recording-order → ⊥
@@ -94,13 +94,13 @@ pub record Example : Type 0 where
 
 -- The last two share a node of the model, and where they trade places the adjoints are 18 and 3: `Apart` is needed
 pub record Overlapping : Type 0 where
-  pub plays : Plays swapped (calls swapped) before
+  pub runs : RunsAs swapped (calls swapped) before
   pub adjoints : bits (model-adjoints swapped (calls swapped) before) ≡ 0x4032_0000_0000_0000 ∷ 0x4008_0000_0000_0000 ∷ []
-  pub means : meaning three ≡ with-both (meaning three .model) (back 1 (float 3) ∷ []) (back 1 high) (back 1 (neg high)) []
-  pub swapped-means : meaning swapped ≡ with-both (meaning three .model) (back 1 (float 3) ∷ []) (back 1 (neg high)) (back 1 high) []
+  pub resolves : resolve three ≡ with-both (resolve three .model) (back 1 (float 3) ∷ []) (back 1 high) (back 1 (neg high)) []
+  pub swapped-means : resolve swapped ≡ with-both (resolve three .model) (back 1 (float 3) ∷ []) (back 1 (neg high)) (back 1 high) []
   pub changed : model-adjoints three three-calls before ≡ model-adjoints swapped (calls swapped) before → ⊥
-  pub not-apart : Apart (meaning three .model) (back 1 high) (back 1 (neg high)) → ⊥
+  pub not-apart : Apart (resolve three .model) (back 1 high) (back 1 (neg high)) → ⊥
 
 -- one that passes back to x and one that passes back to x * x share none
 abbrev pub ApartHere : Type 0
-ApartHere = Apart (meaning three .model) (back 0 (float 3)) (back 1 high)
+ApartHere = Apart (resolve three .model) (back 0 (float 3)) (back 1 high)

@@ -9,7 +9,7 @@ use Rattle.tape.specs.declared.errors.Refusal.{Refusal}
 use Rattle.tape.specs.declared.node.Handle.{Handle}
 use Rattle.tape.specs.declared.node.Usable.{Usable}
 use Rattle.tape.specs.declared.node.Usable.the-variants.{Live, Refused}
-use Rattle.tape.specs.declared.state.Tape.{Tape}
+use Rattle.tape.specs.declared.tape.Tape.{Tape}
 use Rattle.tape.proofs.Steps.{lives-told}
 
 by-answer : (b : Bool) (r : Refusal) → cond b Live (Refused r) ≡ Live → b ≡ true

@@ -3,12 +3,16 @@ use mathlib.Core.Path.{_≡_, refl, ap, _∙_}
 use mathlib.Core.List.{[], _∷_}
 use mathlib.Core.Option.{Option, none, some}
 use Rattle.tape.specs.Numbers.{floats}
-use Rattle.tape.specs.Machine.{Arrays, machine, no-arrays}
-use Rattle.tape.specs.Answers.{outcome, admitted, moved-by, done}
-use Rattle.tape.specs.Calls.{Move, start, stop, set-mark, reset-mark, rewind-to-mark, rewind-to-init, move, moved, mover, admission, first, unless, step}
+use Rattle.tape.specs.Machine.{Arrays, machine}
+use Rattle.tape.specs.Answers.{outcome, done}
+use Rattle.tape.specs.Calls.{Move, start, stop, set-mark, reset-mark, rewind-to-mark, rewind-to-init, move, moved}
+use Rattle.tape.specs.Admission.{no-arrays, admitted, admission}
+use Rattle.tape.specs.Refusals.{mover, first}
+use Rattle.tape.specs.Steps.{unless, step}
+use Rattle.tape.specs.Inner.{moved-by}
 use Rattle.tape.specs.declared.errors.Refusal.{Refusal}
-use Rattle.tape.specs.declared.state.Moved.{Moved}
-use Rattle.tape.specs.declared.state.Tape.{Tape}
+use Rattle.tape.specs.declared.tape.Moved.{Moved}
+use Rattle.tape.specs.declared.tape.Tape.{Tape}
 
 by-row : (o : Option Refusal) (t u : Tape) (A : Arrays floats) → outcome (moved-by (admitted o) t u) A ≡ unless (first (o ∷ [])) (machine t A) (done, machine u A)
 by-row none t u A = refl

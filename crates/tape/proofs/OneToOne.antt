@@ -8,12 +8,12 @@ use mathlib.Core.List.{List, [], _∷_}
 use lib.Dec.{eqb}
 use Rattle.tape.specs.Numbers.{floats}
 use Rattle.tape.specs.Machine.{Arrays}
-use Rattle.tape.specs.Answers.{number, listed, outcome, Told}
+use Rattle.tape.specs.Answers.{number, listed, outcome, OneToOne}
 use Rattle.tape.specs.declared.errors.Refusal.{Refusal}
 use Rattle.tape.specs.declared.errors.Refusal.the-variants.{Misshapen, UnknownOperation, NotLive, Detached, Full, SerialsSpent, UnsoundEdge, ListingTooLong}
-use Rattle.tape.specs.declared.state.Moved.{Moved}
-use Rattle.tape.specs.declared.state.Moved.the-variants.{Done, Refused}
-use Rattle.tape.specs.declared.state.Tape.{Tape}
+use Rattle.tape.specs.declared.tape.Moved.{Moved}
+use Rattle.tape.specs.declared.tape.Moved.the-variants.{Done, Refused}
+use Rattle.tape.specs.declared.tape.Tape.{Tape}
 
 abbrev among : {A : Type 0} → List Refusal → A → (Refusal → A) → ℕ → A
 among [] x f k = x
@@ -44,8 +44,8 @@ read-back : (x : Moved) (A : Arrays floats) → meant (outcome x A .0 .number) (
 read-back (Done t) A = refl
 read-back (Refused r t) A = at-refusal (Done t) (λ r. Refused r t) r
 
-pub told : Told
-told = record {
+pub one-to-one : OneToOne
+one-to-one = record {
   numbers = λ r s e. sym (at-refusal Misshapen (λ q. q) r) ∙ ap (by-number Misshapen (λ q. q)) e ∙ at-refusal Misshapen (λ q. q) s;
   moves = λ x y A e. sym (read-back x A) ∙ ap (λ o. meant (o .0 .number) (o .1 .state)) e ∙ read-back y A;
 }

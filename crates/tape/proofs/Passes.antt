@@ -6,22 +6,25 @@ use mathlib.Core.Path.{_≡_, refl, sym, ap, subst, _∙_}
 use mathlib.Core.Bool.{true, false, not, _&&_, true≢false, and-eq-true-iff}
 use mathlib.Core.List.{List, [], _∷_, _++_, map, map-append}
 use mathlib.Core.Option.{some, none, Option·some-injective}
-use borrow.Author.Tests.{ltb-true, not-true, not-false}
+use borrow.Author.Tests.{ltb-true, not-true}
 use lib.Dec.{ltb, eqb}
 use lib.ListN.{length, getD, set, length-map}
 use lib.Seq.{getD-set-other}
 use Rattle.tape.specs.Numbers.{Numbers}
-use Rattle.tape.specs.Machine.{Arrays, Machine, machine, capacity, slot, all, is-lent, fits}
+use Rattle.tape.specs.Machine.{Arrays, Machine, machine, capacity, slot, all}
 use Rattle.tape.specs.Handles.{plain, node, live, handles, any-plain}
 use Rattle.tape.specs.Walk.{Edge, push, walk, edges-from, edges-at, indexes, sum, visited, sound}
 use Rattle.tape.specs.Answers.{Answer, number, done, counted}
-use Rattle.tape.specs.Calls.{reset-mark, Pass, backward, backward-to-mark, backward-mark-to-start, propagate-to-mark, propagate-mark-to-start, Call, move, operate, clear, pass, value-of, adjoint-of, is-live, list, moved, with-adjoints, plan, let-in, asked, unknown, first-amiss, would-record, too-long, last-serial, refusals, refusal-of, carried, step, run}
+use Rattle.tape.specs.Calls.{reset-mark, Pass, backward, backward-to-mark, backward-mark-to-start, propagate-to-mark, propagate-mark-to-start, Call, move, operate, clear, pass, value-of, adjoint-of, is-live, list, moved, with-adjoints, plan, carried}
+use Rattle.tape.specs.Admission.{is-lent, fits, let-in}
+use Rattle.tape.specs.Refusals.{asked, unknown, first-amiss, would-record, too-long, last-serial, refusals}
+use Rattle.tape.specs.Steps.{step, run}
 use Rattle.tape.specs.Kept.{fresh, after}
 use Rattle.tape.specs.Passes.{EachEdge, push-edge-by-edge, OnlyAdjoints, EmptyRange, BothRanges, NeverUnsound, Unrefused, counts, in-one, in-two}
 use Rattle.tape.specs.declared.errors.Refusal.the-variants.{UnsoundEdge}
 use Rattle.tape.specs.declared.node.Handle.{Handle}
-use Rattle.tape.specs.declared.state.Caller.the-variants as caller
-use Rattle.tape.proofs.OneToOne.{by-number, at-refusal, told}
+use Rattle.tape.specs.declared.admission.Caller.the-variants as caller
+use Rattle.tape.proofs.OneToOne.{by-number, at-refusal, one-to-one}
 use Rattle.tape.proofs.Ranges.{length-indexes, indexes-cut, sum-append, all-append, all-below}
 use Rattle.tape.proofs.Recording.{SoundNodes, recording}
 use Rattle.tape.proofs.Steps.{Hit, here, there, hit, hits, other, granted-shape, Passed, shape, sound-range, by-refusal, first-live}
@@ -198,6 +201,6 @@ never-unsound = record {
       (λ x. x .0 .number ≡ 7 → ⊥)
       c
       M
-      (λ r h e. not-hit M (recording .sound-nodes A before) c (hit _ _ (h ∙ ap some (told .numbers r UnsoundEdge e))))
+      (λ r h e. not-hit M (recording .sound-nodes A before) c (hit _ _ (h ∙ ap some (one-to-one .numbers r UnsoundEdge e))))
       (λ _ e. omega (arith, carried-number c M));
 }

@@ -5,7 +5,8 @@ use mathlib.Core.List.{[], _∷_}
 use Rattle.tape.specs.Numbers.{floats}
 use Rattle.tape.specs.Machine.{machine, arrays}
 use Rattle.tape.specs.Handles.{plain}
-use Rattle.tape.specs.Calls.{move, operate, rewind-to-init, step}
+use Rattle.tape.specs.Calls.{move, operate, rewind-to-init}
+use Rattle.tape.specs.Steps.{step}
 use Rattle.tape.specs.Kept.{Revived}
 
 pub revived : Revived

@@ -1,8 +1,8 @@
 -- Every row and every text holds: both sides are computed.
 use mathlib.Core.Path.{refl}
 use lib.Ieee.{add, sub, mul, div, neg, lt, le, ofInt, ofBits, toBits}
-use Rattle.tape.specs.Calls.{step}
 use Rattle.tape.specs.Rows.{EveryRow, EveryText}
+use Rattle.tape.specs.Steps.{step}
 
 pub every-row : EveryRow
 unfolding step add sub mul div neg lt le ofInt ofBits toBits

@@ -6,7 +6,8 @@ use mathlib.Core.List.{List, [], _∷_}
 use Rattle.tape.specs.Numbers.{Numbers}
 use Rattle.tape.specs.Machine.{Machine}
 use Rattle.tape.specs.Answers.{Answer}
-use Rattle.tape.specs.Calls.{Call, step, run}
+use Rattle.tape.specs.Calls.{Call}
+use Rattle.tape.specs.Steps.{step, run}
 use Rattle.tape.specs.Kept.{Serials, Ascending, NoneNought, serials, serial-of}
 use Rattle.tape.proofs.Steps.{Effect, keeps, records, effect, kept}
 

@@ -3,7 +3,7 @@ use Prim.Native.Nat.{ℕ, suc, _+_, _≤_, _<_, zero-le}
 use native.Mathlib.Nat.{le-refl}
 use native.Mathlib.Omega.{arith}
 use native.Mathlib.Decide.{decLt}
-use mathlib.Core.Path.{_≡_, refl, sym, ap, subst, _∙_}
+use mathlib.Core.Path.{_≡_, refl, sym, ap, subst}
 use mathlib.Core.Bool.{Bool, true, false, not, _&&_, cond}
 use mathlib.Core.List.{List, [], _∷_, _++_, map, append-nil}
 use mathlib.Core.Option.{Option, none, some, Option·some-injective}
@@ -11,18 +11,21 @@ use borrow.Author.Tests.{ltb-true, eqb-true, eqb-false, lt-ltb, eq-eqb, ne-eqb, 
 use lib.Dec.{ltb, eqb}
 use lib.ListN.{length, getD}
 use Rattle.tape.specs.Numbers.{Numbers}
-use Rattle.tape.specs.Machine.{Machine, arrays, machine, capacity, all, is-lent, fits}
-use Rattle.tape.specs.Handles.{Operand, plain, node, live, worth, handles, any-plain, lives}
+use Rattle.tape.specs.Machine.{Machine, arrays, machine, capacity, all}
+use Rattle.tape.specs.Handles.{Operand, plain, node, live, operand-value, handles, lives}
 use Rattle.tape.specs.Operations.{Given, apply, one-sided}
 use Rattle.tape.specs.Walk.{Edge, sound}
-use Rattle.tape.specs.Answers.{Answer, number, answer, refused, recorded, admitted}
-use Rattle.tape.specs.Calls.{Move, start, stop, set-mark, reset-mark, rewind-to-mark, rewind-to-init, Call, move, operate, clear, pass, value-of, adjoint-of, is-live, list, edge, edges, issued, written, mover, let-in, asked, refusals, first, refusal-of, unless, when, unknown, first-amiss, would-record, last-serial, carried, step}
+use Rattle.tape.specs.Answers.{Answer, number, answer, refused, recorded}
+use Rattle.tape.specs.Calls.{Move, start, stop, set-mark, reset-mark, rewind-to-mark, rewind-to-init, Call, move, operate, clear, pass, value-of, adjoint-of, is-live, list, edge, edges, issued, written, carried}
+use Rattle.tape.specs.Admission.{is-lent, fits, admitted, let-in, when}
+use Rattle.tape.specs.Refusals.{mover, asked, refusals, first, refusal-of, unknown, first-amiss, would-record, last-serial}
+use Rattle.tape.specs.Steps.{unless, step}
 use Rattle.tape.specs.Kept.{after}
 use Rattle.tape.proofs.Tests.{by-test, by-or, every, Fit, fit, state-fit}
 use Rattle.tape.specs.declared.errors.Refusal.{Refusal}
-use Rattle.tape.specs.declared.state.Admission.{Admission}
-use Rattle.tape.specs.declared.state.Admission.the-variants as admission
-use Rattle.tape.specs.declared.state.Caller.{Caller}
+use Rattle.tape.specs.declared.admission.Admission.{Admission}
+use Rattle.tape.specs.declared.admission.Admission.the-variants as admission
+use Rattle.tape.specs.declared.admission.Caller.{Caller}
 use Rattle.tape.specs.declared.node.Handle.{Handle}
 
 -- ---- the first row that refuses
@@ -210,8 +213,8 @@ move-effect rewind-to-init M h = keeps zero-le
 carried-effect : {N : Numbers} (c : Call N) (M : Machine N) → Passed c M → Effect M (carried c M)
 carried-effect (move m) M p = move-effect m M (state-fit 65535 (M .state) (rw (mover-unlent m) at (shape p)) .mark)
 carried-effect (operate op left right g) M p =
-    let s = apply op (worth M left) (worth M right) g in
-    by-test (Effect M) (M .state .active) (λ active. records (s .value) (edges left right s) (ready M (shape p) (rw active at (room p))) (both-ok M (one-sided op) left right (s .left) (s .right) (alone op (worth M left) (worth M right) g) (all-live p))) (λ _. keeps (le-refl _))
+    let s = apply op (operand-value M left) (operand-value M right) g in
+    by-test (Effect M) (M .state .active) (λ active. records (s .value) (edges left right s) (ready M (shape p) (rw active at (room p))) (both-ok M (one-sided op) left right (s .left) (s .right) (alone op (operand-value M left) (operand-value M right) g) (all-live p))) (λ _. keeps (le-refl _))
 carried-effect clear M p = keeps (le-refl _)
 carried-effect (pass p) M _ = keeps (le-refl _)
 carried-effect (value-of x) M p = keeps (le-refl _)

@@ -6,8 +6,9 @@ use mathlib.Core.List.{List, [], _∷_, _++_}
 use borrow.Author.Tests.{leb-true, eqb-true, eqb-false, not-true, le-leb, eq-eqb, ne-eqb}
 use lib.ListN.{length}
 use Rattle.tape.specs.Numbers.{Numbers}
-use Rattle.tape.specs.Machine.{Machine, machine, capacity, slot, all, lengths, fits, arrays-fit, state-fits}
-use Rattle.tape.specs.declared.state.Tape.{Tape}
+use Rattle.tape.specs.Machine.{Machine, machine, capacity, slot, all}
+use Rattle.tape.specs.Admission.{lengths, fits, arrays-fit, state-fits}
+use Rattle.tape.specs.declared.tape.Tape.{Tape}
 
 pub by-test : {A : Type 0} (P : A → Type 0) (b : Bool) {x y : A} → (b ≡ true → P x) → (b ≡ false → P y) → P (cond b x y)
 by-test P true f g = f refl

@@ -14,7 +14,7 @@ use Rattle.tape.specs.declared.node.Lookup.the-variants as lookup
 use Rattle.tape.specs.declared.node.Usable.{Usable}
 use Rattle.tape.specs.declared.node.Usable.the-variants.{Live, Refused}
 use Rattle.tape.specs.declared.node.Operand as code
-use Rattle.tape.specs.declared.state.Tape.{Tape}
+use Rattle.tape.specs.declared.tape.Tape.{Tape}
 
 -- its index is below the length, its serial is not 0, and the serial stored at that index is the same
 abbrev pub lives : ℕ → List ℕ → Handle → Bool
@@ -45,9 +45,9 @@ operand (code.the-variants.Number x) = plain x
 operand (code.the-variants.Node h) = node h
 
 -- a plain number is its value; a handle's value is read from the tape
-abbrev pub worth : {N : Numbers} → Machine N → Operand N → N .Number
-worth M (plain x) = x
-worth {N} M (node h) = getD (M .lent .value) (h .index) (N .blank)
+abbrev pub operand-value : {N : Numbers} → Machine N → Operand N → N .Number
+operand-value M (plain x) = x
+operand-value {N} M (node h) = getD (M .lent .value) (h .index) (N .blank)
 
 -- the adjoint behind a handle; that of a plain number is refused
 abbrev pub gradient : {N : Numbers} → Machine N → Operand N → N .Number

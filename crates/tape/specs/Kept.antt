@@ -7,11 +7,12 @@ use mathlib.Core.Option.{Option, none, some}
 use lib.ListN.{getD, take}
 use Rattle.tape.specs.Numbers.{Numbers, floats}
 use Rattle.tape.specs.Machine.{Arrays, Machine, machine, slot, new-tape}
-use Rattle.tape.specs.Handles.{Operand, node, live, worth}
+use Rattle.tape.specs.Handles.{Operand, node, live, operand-value}
 use Rattle.tape.specs.Operations.{Given}
 use Rattle.tape.specs.Walk.{sound}
 use Rattle.tape.specs.Answers.{Answer}
-use Rattle.tape.specs.Calls.{Move, Call, move, operate, step, run}
+use Rattle.tape.specs.Calls.{Move, Call, move, operate}
+use Rattle.tape.specs.Steps.{step, run}
 use Rattle.tape.specs.declared.node.Handle.{Handle}
 
 -- a new tape over any arrays
@@ -88,7 +89,7 @@ pub record SameBelow {N : Numbers} (n : ℕ) (A B : Arrays N) : Type 0 where
 pub record Recording : Type 1 where
   -- the handle that is answered is live, and the value read through it is the value answered
   pub answered : {N : Numbers} (c : Call N) (M : Machine N) (h : Handle) → step c M .0 .handle ≡ some h
-      → (live (step c M .1) h ≡ true) × (worth (step c M .1) (node h) ≡ step c M .0 .value)
+      → (live (step c M .1) h ≡ true) × (operand-value (step c M .1) (node h) ≡ step c M .0 .value)
   -- a tape that only these calls wrote has sound nodes
   pub sound-nodes : {N : Numbers} (A : Arrays N) (cs : List (Call N)) (i : ℕ) → i < after cs (fresh A) .state .length → sound (after cs (fresh A) .lent) i ≡ true
   -- nothing below the old length changes

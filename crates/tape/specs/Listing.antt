@@ -7,7 +7,7 @@ use Rattle.text.specs.Numerals.{bytes, hex, decimal}
 use Rattle.tape.specs.Numbers.{Numbers}
 use Rattle.tape.specs.Machine.{Arrays, Machine}
 use Rattle.tape.specs.Walk.{indexes}
-use Rattle.tape.specs.declared.state.Tape.{Tape}
+use Rattle.tape.specs.declared.tape.Tape.{Tape}
 
 abbrev pub header : Tape → List ℕ
 header t = bytes "nodes=" ++ decimal (t .length) ++ bytes " mark=" ++ decimal (t .mark) ++ bytes " active=" ++ decimal (cond (t .active) 1 0) ++ bytes "\n"

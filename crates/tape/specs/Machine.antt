@@ -1,16 +1,12 @@
 -- The machine: a small state and six lent arrays. The state is the code's own `Tape`: length, mark, active flag, next serial.
 use Prim.Native.Nat.{ℕ, _*_}
-use mathlib.Core.Bool.{Bool, true, false, not, _&&_, cond}
-use mathlib.Core.List.{List, [], _∷_, _++_}
-use lib.Dec.{leb, eqb}
+use mathlib.Core.Bool.{Bool, true, false, _&&_}
+use mathlib.Core.List.{List, [], _∷_}
 use lib.ListN.{length}
 use denote.Ref.{RefT}
 use denote.Triple.Both.{Both}
 use Rattle.tape.specs.Numbers.{Numbers, floats}
-use Rattle.tape.specs.declared.state.Caller.{Caller}
-use Rattle.tape.specs.declared.state.Caller.the-variants as caller
-use Rattle.tape.specs.declared.state.Lengths.{Lengths}
-use Rattle.tape.specs.declared.state.Tape.{Tape}
+use Rattle.tape.specs.declared.tape.Tape.{Tape}
 
 -- value, adjoint, serial and edge count have an entry for each node; edge child and edge partial have two
 pub record Arrays (N : Numbers) : Type 0 where
@@ -45,54 +41,32 @@ most-edges = 2
 abbrev pub slot : ℕ → ℕ
 slot i = most-edges * i
 
-abbrev pub new-tape : Tape
-new-tape = record { length = 0; mark = 0; active = false; next = 1 }
-
-abbrev pub lengths : {N : Numbers} → Arrays N → Lengths
-lengths A = record { value = length (A .value); adjoint = length (A .adjoint); serial = length (A .serial); count = length (A .count); child = length (A .child); partial = length (A .partial) }
-
-abbrev pub no-arrays : Lengths
-no-arrays = record { value = 0; adjoint = 0; serial = 0; count = 0; child = 0; partial = 0 }
-
--- which calls are lent the arrays
-abbrev pub is-lent : Caller → Bool
-is-lent caller.Start = false
-is-lent caller.Move = false
-is-lent caller.Recording = true
-is-lent caller.Clearing = true
-is-lent caller.Passing = true
-is-lent caller.Value = true
-is-lent caller.Adjoint = true
-is-lent caller.Liveness = true
-is-lent caller.Listing = true
-
--- ---- refusal 1: what has to fit
-
 abbrev pub all : List Bool → Bool
 all [] = true
 all (b ∷ bs) = b && all bs
 
--- the array lengths fit one n, and n is at most 65,535
-abbrev pub arrays-fit : Lengths → List Bool
-arrays-fit n =
-    leb (n .value) most-nodes
-    ∷ eqb (n .adjoint) (n .value)
-    ∷ eqb (n .serial) (n .value)
-    ∷ eqb (n .count) (n .value)
-    ∷ eqb (n .child) (slot (n .value))
-    ∷ eqb (n .partial) (slot (n .value))
-    ∷ []
+-- ---- the state
 
--- the length is at most n, the mark at most the length, and the next serial is not 0
-abbrev pub state-fits : ℕ → Tape → List Bool
-state-fits n t = leb (t .length) n ∷ leb (t .mark) (t .length) ∷ not (eqb (t .next) 0) ∷ []
+-- length 0, mark 0, inactive, the first serial 1
+abbrev pub new-tape : Tape
+new-tape = record { length = 0; mark = 0; active = false; next = 1 }
 
--- a call that is lent no tape array tests the state alone, with 65,535 for n
-abbrev pub fitting : Bool → Lengths → Tape → Bool
-fitting lent n t = cond lent (all (arrays-fit n ++ state-fits (n .value) t)) (all (state-fits most-nodes t))
+-- a state with one field changed
+abbrev pub with-length : ℕ → Tape → Tape
+with-length n t = record { length = n; mark = t .mark; active = t .active; next = t .next }
 
-abbrev pub fits : {N : Numbers} → Bool → Machine N → Bool
-fits lent M = fitting lent (lengths (M .lent)) (M .state)
+abbrev pub with-mark : ℕ → Tape → Tape
+with-mark n t = record { length = t .length; mark = n; active = t .active; next = t .next }
+
+abbrev pub with-active : Bool → Tape → Tape
+with-active b t = record { length = t .length; mark = t .mark; active = b; next = t .next }
+
+abbrev pub with-next : ℕ → Tape → Tape
+with-next n t = record { length = t .length; mark = t .mark; active = t .active; next = n }
+
+-- a state by its length, mark, active flag and next serial; whatever else it has is a new tape's
+abbrev pub state : ℕ → ℕ → Bool → ℕ → Tape
+state length mark active next = with-length length (with-mark mark (with-active active (with-next next new-tape)))
 
 -- ---- what a call is lent, in a promise
 

@@ -7,6 +7,37 @@ use lib.Dec.{ltb, eqb}
 use lib.ListN.{getD}
 use Rattle.tape.specs.Numbers.{Numbers}
 
+-- the operations' numbers, under the names that they have in the code
+abbrev pub LEAF : ℕ
+LEAF = 0
+
+abbrev pub ADD : ℕ
+ADD = 1
+
+abbrev pub SUBTRACT : ℕ
+SUBTRACT = 2
+
+abbrev pub MULTIPLY : ℕ
+MULTIPLY = 3
+
+abbrev pub DIVIDE : ℕ
+DIVIDE = 4
+
+abbrev pub MAX : ℕ
+MAX = 5
+
+abbrev pub MIN : ℕ
+MIN = 6
+
+abbrev pub NEGATE : ℕ
+NEGATE = 7
+
+abbrev pub SUPPLIED-ONE : ℕ
+SUPPLIED-ONE = 8
+
+abbrev pub SUPPLIED-TWO : ℕ
+SUPPLIED-TWO = 9
+
 -- what the host supplies for operations 8 and 9
 pub record Given (N : Numbers) : Type 0 where
   pub value : N .Number
@@ -55,7 +86,7 @@ known op = ltb op 10
 
 -- operations 0, 7 and 8 use the left operand alone
 abbrev pub one-sided : ℕ → Bool
-one-sided op = eqb op 0 || eqb op 7 || eqb op 8
+one-sided op = eqb op LEAF || eqb op NEGATE || eqb op SUPPLIED-ONE
 
 abbrev pub used : {A : Type 0} → ℕ → A → A → List A
 used op left right = cond (one-sided op) (left ∷ []) (left ∷ right ∷ [])

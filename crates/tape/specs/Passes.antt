@@ -6,11 +6,13 @@ use mathlib.Core.List.{List, [], _∷_, _++_, map}
 use lib.Dec.{ltb}
 use lib.ListN.{length, getD, set}
 use Rattle.tape.specs.Numbers.{Numbers}
-use Rattle.tape.specs.Machine.{Arrays, Machine, all, fits}
+use Rattle.tape.specs.Machine.{Arrays, Machine, all}
 use Rattle.tape.specs.Handles.{Operand}
 use Rattle.tape.specs.Walk.{Edge, push, walk, edges-at, sum, visited}
 use Rattle.tape.specs.Answers.{Answer, counted}
-use Rattle.tape.specs.Calls.{move, reset-mark, Pass, Call, pass, propagate-to-mark, propagate-mark-to-start, clear, value-of, adjoint-of, is-live, list, with-adjoints, step, run}
+use Rattle.tape.specs.Calls.{move, reset-mark, Pass, Call, pass, propagate-to-mark, propagate-mark-to-start, clear, value-of, adjoint-of, is-live, list, with-adjoints}
+use Rattle.tape.specs.Admission.{fits}
+use Rattle.tape.specs.Steps.{step, run}
 use Rattle.tape.specs.Kept.{fresh, after}
 
 -- document 01's words to the letter, the adjoint of node i read again for each edge

@@ -14,8 +14,9 @@ use Rattle.tape.specs.Machine.{Arrays, Machine, arrays, machine, slot}
 use Rattle.tape.specs.Handles.{Operand, plain, node}
 use Rattle.tape.specs.Operations.{Given}
 use Rattle.tape.specs.Listing.{header, listing}
-use Rattle.tape.specs.Answers.{Answer, refused, done, told, recorded, counted}
-use Rattle.tape.specs.Calls.{Pass, Call, move, start, set-mark, rewind-to-mark, operate, clear, pass, backward, backward-to-mark, backward-mark-to-start, propagate-to-mark, propagate-mark-to-start, value-of, adjoint-of, is-live, list, run}
+use Rattle.tape.specs.Answers.{Answer, refused, done, read-value, recorded, counted}
+use Rattle.tape.specs.Calls.{Pass, Call, move, start, set-mark, rewind-to-mark, operate, clear, pass, backward, backward-to-mark, backward-mark-to-start, propagate-to-mark, propagate-mark-to-start, value-of, adjoint-of, is-live, list}
+use Rattle.tape.specs.Steps.{run}
 use Rattle.tape.specs.Kept.{fresh, after}
 use Rattle.tape.specs.declared.errors.Refusal.the-variants.{Misshapen, NotLive, Detached, UnsoundEdge, ListingTooLong}
 use Rattle.tape.specs.declared.node.Handle.{Handle}
@@ -190,7 +191,7 @@ P8 =
       calls = move start ∷ leaf (float 3) ∷ move set-mark ∷ plus (node-at 0) (node-at 0) ∷ pass (backward old) ∷ is-live old ∷ move rewind-to-mark ∷ leaf (float 2)
           ∷ adjoint-of new ∷ plus old (node-at 0) ∷ pass (backward old) ∷ value-of old ∷ adjoint-of old ∷ is-live old ∷ is-live new ∷ [];
       answers = done ∷ recorded (float 3) (first 0) ∷ done ∷ recorded (float 6) (handle 1 2) ∷ counted 2 ∷ counted 1 ∷ done ∷ recorded (float 2) (handle 1 3)
-          ∷ told (float 0) ∷ refused NotLive ∷ refused NotLive ∷ refused NotLive ∷ refused NotLive ∷ counted 0 ∷ counted 1 ∷ [];
+          ∷ read-value (float 0) ∷ refused NotLive ∷ refused NotLive ∷ refused NotLive ∷ refused NotLive ∷ counted 0 ∷ counted 1 ∷ [];
       sights = adjoints (float 2 ∷ float 0 ∷ []) ∷ [];
     }
 
@@ -239,7 +240,7 @@ plain-numbers =
     let x = plain (float 5) in
     on-four
     (value-of x ∷ is-live x ∷ adjoint-of x ∷ pass (backward x) ∷ pass (backward-to-mark x) ∷ pass (backward-mark-to-start x) ∷ value-of (node-at 2) ∷ adjoint-of (node-at 1) ∷ [])
-    (told (float 5) ∷ counted 0 ∷ refused Detached ∷ refused Detached ∷ refused Detached ∷ refused Detached ∷ told (float 6) ∷ told (float 3) ∷ [])
+    (read-value (float 5) ∷ counted 0 ∷ refused Detached ∷ refused Detached ∷ refused Detached ∷ refused Detached ∷ read-value (float 6) ∷ read-value (float 3) ∷ [])
     (four-adjoints ∷ [])
 
 -- a node that is its own child is refused 7 before the root's adjoint is set; a walk that does not reach it is not

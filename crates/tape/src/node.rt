@@ -1,6 +1,6 @@
 // Handles to nodes, and what a caller carries in place of the Rust's Dual: a plain number or a handle.
 use crate::errors::Refusal;
-use crate::state::Tape;
+use crate::tape::Tape;
 ghost use mathlib.Core.Path.{_≡_};
 ghost use Rattle.tape.specs.Handles.{lives, looked-up, usable-as};
 
@@ -34,6 +34,12 @@ pub enum Usable {
 }
 
 impl Handle {
+    // A handle that is never live: no node has serial 0.
+    pub const NEVER_LIVE: Handle = Handle {
+        index: 0,
+        serial: 0,
+    };
+
     // Whether the handle is live on a tape with these serials.
     pub fn lookup(self, tape: Tape, serial: &[u64]) -> Lookup
         ensures { λ x. ⌜ x ≡ looked-up tape (now (serial .entry)) self ⌝ }

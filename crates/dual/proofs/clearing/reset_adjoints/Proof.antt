@@ -1,12 +1,10 @@
 -- Turned away, or the live adjoints are cleared and nothing else.
 use mathlib.Core.Path.{_≡_, ap, _∙_}
-use mathlib.Core.Option.{none}
 use denote.Ref.{now}
 use Rattle.tape.specs.Numbers.{floats}
 use Rattle.tape.specs.Machine.{Machine, arrays, machine}
-use Rattle.tape.specs.Answers.{admitted}
-use Rattle.tape.specs.Calls.{let-in, admission}
-use Rattle.tape.specs.declared.state.Caller.the-variants as caller
+use Rattle.tape.specs.Admission.{admitted, let-in, admission}
+use Rattle.tape.specs.declared.admission.Caller.the-variants as caller
 use Rattle.tape.proofs.Steps.{turned-away, is-granted}
 use Rattle.dual.proofs.Readings.{clearable, cleared-so}
 use borrow.Author.Needs.{needs}

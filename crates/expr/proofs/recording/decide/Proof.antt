@@ -1,19 +1,15 @@
 -- By the admission, then by the row.
-use Prim.Native.Nat.{_≤_, _<_}
-use native.Mathlib.Omega.{arith}
-use mathlib.Core.Path.{refl, sym, ap, _∙_}
-use mathlib.Core.List.{_++_}
+use mathlib.Core.Path.{ap, _∙_}
 use mathlib.Core.Path.{_≡_, subst}
 use denote.Ref.{now}
 use Rattle.tape.specs.Numbers.{floats}
 use Rattle.tape.specs.Operations.{known, apply}
-use Rattle.tape.specs.Calls.{admission}
-use Rattle.tape.specs.declared.state.Caller.the-variants as caller
+use Rattle.tape.specs.Admission.{admission}
+use Rattle.tape.specs.declared.admission.Caller.the-variants as caller
 use Rattle.tape.proofs.Steps.{is-granted, is-refused}
 use Rattle.expr.specs.Outcome.{given}
-use Rattle.expr.specs.Inner.{Decides, worth-in, usable-operand, row-refusal, row-for, row-of}
-use Rattle.expr.specs.declared.operations.Row.{Row}
-use Rattle.expr.proofs.Table.{row-told}
+use Rattle.expr.specs.Inner.{Decides, operand-value-in, usable-operand, row-refusal, row-for, row-of}
+use Rattle.expr.proofs.Table.{row-so-in}
 use Rattle.expr.proofs.Decisions.{door-refused, door-granted, length-small}
 use borrow.Author.Needs.{needs}
 use Rattle.expr.proofs.recording.decide.Statement.{statement}
@@ -23,9 +19,9 @@ use Rattle.expr.proofs.recording.decide.Tie as tie
 found : (c : tie.After-apply) → let a = c .before .before .before .before .before .before .before .before .args in c .apply .result ≡ row-for (now (a .value)) (a .op) (a .left) (a .right) (a .supplied)
 found c =
     let a = c .before .before .before .before .before .before .before .before .args in
-    row-told (c .apply .result) _ (c .apply .ensures)
-    ∙ ap (λ x. row-of (known (a .op)) (apply {N = floats} (a .op) x (c .before .worth2 .result) (given (a .supplied)))) (c .before .before .worth .ensures)
-    ∙ ap (λ x. row-of (known (a .op)) (apply {N = floats} (a .op) (worth-in (now (a .value)) (a .left)) x (given (a .supplied)))) (c .before .worth2 .ensures)
+    row-so-in (c .apply .result) _ (c .apply .ensures)
+    ∙ ap (λ x. row-of (known (a .op)) (apply {N = floats} (a .op) x (c .before .operand-value2 .result) (given (a .supplied)))) (c .before .before .operand-value .ensures)
+    ∙ ap (λ x. row-of (known (a .op)) (apply {N = floats} (a .op) (operand-value-in (now (a .value)) (a .left)) x (given (a .supplied)))) (c .before .operand-value2 .ensures)
 
 pub decide-spec : {M : Type 1} → statement M
 decide-spec =

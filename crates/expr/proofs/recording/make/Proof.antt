@@ -1,8 +1,5 @@
 -- Row by row.
-use Prim.Native.Nat.{_≤_, _<_}
-use native.Mathlib.Omega.{arith}
-use mathlib.Core.Path.{refl, sym, ap, _∙_}
-use mathlib.Core.List.{_++_}
+use mathlib.Core.Path.{sym, ap, _∙_}
 use denote.Ref.{now}
 use Rattle.expr.specs.Inner.{usable-operand, refusal-in}
 use Rattle.expr.proofs.Decisions.{refused-so, with-row, with-refusal, small-so, both-live}

@@ -1,5 +1,4 @@
 -- By whether the operand can be used.
-use Prim.Native.Nat.{_≤_}
 use native.Mathlib.Omega.{arith}
 use mathlib.Core.Path.{refl}
 use Rattle.expr.proofs.Decisions.{usable-refused, usable-granted}

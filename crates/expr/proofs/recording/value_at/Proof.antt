@@ -1,7 +1,7 @@
 -- By the test, on either way; 0.0 / 0.0 is not a number.
 use mathlib.Core.Path.{_≡_, refl, sym, _∙_}
 use denote.Ref.{now}
-use lib.Ieee.{Float, nan, binary64, ofBits, div}
+use lib.Ieee.{nan, binary64, ofBits, div}
 use lib.ListN.{List·getD-eq-default}
 use borrow.Author.Needs.{needs}
 use Rattle.expr.proofs.recording.value_at.Statement.{statement}

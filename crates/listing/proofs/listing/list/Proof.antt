@@ -10,10 +10,9 @@ use lib.ListN.{length}
 use Rattle.tape.specs.Numbers.{floats}
 use Rattle.tape.specs.Machine.{Machine, arrays, machine}
 use Rattle.tape.specs.Listing.{listing}
+use Rattle.tape.specs.Admission.{admitted, let-in, admission}
 use Rattle.tape.proofs.Tests.{Fit, fit}
-use Rattle.tape.specs.Answers.{admitted}
-use Rattle.tape.specs.Calls.{let-in, admission}
-use Rattle.tape.specs.declared.state.Caller.the-variants as caller
+use Rattle.tape.specs.declared.admission.Caller.the-variants as caller
 use Rattle.tape.proofs.Steps.{is-granted, is-refused, granted-shape}
 use Rattle.listing.proofs.Written.{turned, too-long, both-fit, written}
 use Rattle.listing.proofs.listing.list.Statement.{statement}

@@ -9,7 +9,7 @@ use borrow.Author.Needs.{needs}
 use lib.ListN.{length}
 use Rattle.text.specs.Numerals.{bytes, decimal}
 use Rattle.tape.specs.Listing.{header}
-use Rattle.tape.specs.declared.state.Tape.{Tape}
+use Rattle.tape.specs.declared.tape.Tape.{Tape}
 use Rattle.text.specs.Written.{written}
 use Rattle.text.specs.Inner.{Wrote}
 use Rattle.listing.proofs.Lines.{header-length}

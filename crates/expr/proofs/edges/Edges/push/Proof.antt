@@ -1,6 +1,4 @@
 use mathlib.Core.Path.{refl}
-use native.Mathlib.Numerals.{add-one}
-use native.Mathlib.Omega.{arith}
 use Rattle.expr.proofs.Lists.{with-so}
 use borrow.Author.Needs.{needs}
 use Rattle.expr.proofs.edges.Edges.push.Statement.{statement}
