@@ -1,0 +1,14 @@
+-- By the test, on either way.
+use borrow.Author.Needs.{needs}
+use borrow.Author.Tests.{lt-ltb, le-ltb}
+use Rattle.text.proofs.write.digit.Statement.{statement}
+use Rattle.text.proofs.write.digit.Tie as tie
+
+pub digit-spec : {M : Type 1} → statement M
+digit-spec =
+    tie.close
+    (tie.spec
+    (λ c. search needs) (λ c. search needs)
+    (λ c. simp (lt-ltb _ _ (c .if1 .taken)))
+    (λ c. search needs) (λ c. search needs)
+    (λ c. simp (le-ltb _ _ (c .if1 .left))))
