@@ -175,14 +175,7 @@ fn make(tape: Tape, serial: &[u64], row: Row, left: Operand, right: Operand) -> 
         Row::Unknown => refused(Refusal::UnknownOperation),
         Row::Leaf(v) => make_leaf(usable(left, tape, serial), v),
         Row::One(v, p) => make_one(usable(left, tape, serial), left, v, p),
-        Row::Two(v, p, q) => make_two(
-            usable_both(left, right, tape, serial),
-            left,
-            v,
-            p,
-            right,
-            q,
-        ),
+        Row::Two(v, p, q) => make_two(usable_both(left, right, tape, serial), left, v, p, right, q),
     }
 }
 

@@ -19,9 +19,10 @@ use Rattle.tape.specs.declared.errors.Refusal.the-variants.{ListingTooLong}
 use Rattle.tape.specs.declared.state.Caller.the-variants as caller
 use Rattle.tape.proofs.OneToOne.{not-nought}
 use Rattle.listing.specs.Outcome.{listed}
-use Rattle.listing.specs.Inner.{Wrote, shown}
+use Rattle.text.specs.Inner.{Wrote}
+use Rattle.listing.specs.Inner.{shown}
 use Rattle.listing.proofs.Lines.{shown-so}
-use Rattle.listing.proofs.Stores.{then}
+use Rattle.text.proofs.Stores.{then}
 
 module _ (M : Machine floats) (lent : List ℕ) where
   pub turned : (r : Refusal) → let-in caller.Listing M ≡ some r → ((refused r, M), lent) ≡ listed M lent

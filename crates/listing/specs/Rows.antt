@@ -8,7 +8,7 @@ use lib.Ieee.{nan}
 use lib.ListN.{replicate}
 use Rattle.tape.specs.Numbers.{floats}
 use Rattle.tape.specs.Machine.{Machine, machine}
-use Rattle.tape.specs.Listing.{bytes}
+use Rattle.text.specs.Numerals.{bytes}
 use Rattle.tape.specs.Answers.{Answer, refused, counted}
 use Rattle.tape.specs.Calls.{move, start}
 use Rattle.tape.specs.Kept.{fresh, after}

@@ -1,10 +1,14 @@
 // Writes the listing into lent bytes. Whether it fits is settled before any byte is written.
-use crate::digits::HEX_DIGITS;
+use crate::bits::bits_of;
 use tape::Admission;
 use tape::Caller;
 use tape::Lengths;
 use tape::Refusal;
 use tape::Tape;
+use text::decimal_length;
+use text::write_decimal;
+use text::write_hex;
+use text::write_text;
 ghost use Prim.Native.Nat.{_+_, _-_, _≤_, _<_};
 ghost use mathlib.Core.Path.{_≡_};
 ghost use mathlib.Core.List.{_++_};
@@ -13,9 +17,11 @@ ghost use lib.ListN.{length};
 ghost use Rattle.tape.specs.Numbers.{floats};
 ghost use Rattle.tape.specs.Machine.{Arrays, machine, lent-before};
 ghost use Rattle.tape.specs.Walk.{indexes};
-ghost use Rattle.tape.specs.Listing.{hex, decimal, header, line, lines, listing};
+ghost use Rattle.text.specs.Numerals.{hex, decimal};
+ghost use Rattle.text.specs.Inner.{Wrote};
+ghost use Rattle.tape.specs.Listing.{header, line, lines, listing};
 ghost use Rattle.listing.specs.Outcome.{outcome, listed};
-ghost use Rattle.listing.specs.Inner.{Wrote, shown};
+ghost use Rattle.listing.specs.Inner.{shown};
 
 // What a listing answers: how many bytes were written, or the refusal.
 pub enum Listed {
@@ -57,14 +63,14 @@ pub fn list(
 const HEADER_BYTES: usize = 6 + 6 + 8 + 1 + 1;
 
 // Beside its index a line has three labels, two patterns and a line feed.
-const LINE_BYTES: usize = 5 + 5 + 5 + 2 * HEX_DIGITS + 1;
+const LINE_BYTES: usize = 5 + 5 + 5 + 2 * 16 + 1;
 
 fn listing_length(tape: Tape) -> usize
     requires { ⌜ tape .length ≤ 65535 ⌝ }
     ensures { λ x. ⌜ ((A : Arrays floats) → x ≡ length (listing (machine tape A))) ⌝ }
 {
-    let nodes = crate::digits::decimal_length(tape.length);
-    let mark = crate::digits::decimal_length(tape.mark);
+    let nodes = decimal_length(tape.length as u64);
+    let mark = decimal_length(tape.mark as u64);
     HEADER_BYTES + nodes + mark + lines_length(tape.length)
 }
 
@@ -132,7 +138,7 @@ fn write_labelled_decimal(out: &mut [u8], at: usize, label: &[u8], n: usize) -> 
     ensures { λ end. ⌜ Wrote (now (out .entry)) at (now (label .entry) ++ decimal n) (now (out .exit)) end ⌝ }
 {
     let at_number = write_text(out, at, label);
-    crate::digits::write_decimal(out, at_number, n)
+    write_decimal(out, at_number, n as u64)
 }
 
 fn write_labelled_bits(out: &mut [u8], at: usize, label: &[u8], x: f64) -> usize
@@ -140,18 +146,5 @@ fn write_labelled_bits(out: &mut [u8], at: usize, label: &[u8], x: f64) -> usize
     ensures { λ end. ⌜ Wrote (now (out .entry)) at (now (label .entry) ++ hex (toBits binary64 x)) (now (out .exit)) end ⌝ }
 {
     let at_bits = write_text(out, at, label);
-    crate::digits::write_hex(out, at_bits, crate::digits::bits_of(x));
-    at_bits + HEX_DIGITS
-}
-
-fn write_text(out: &mut [u8], at: usize, text: &[u8]) -> usize
-    requires { ⌜ at + length (now text) ≤ length (now out) ⌝ }
-    ensures { λ end. ⌜ Wrote (now (out .entry)) at (now (text .entry)) (now (out .exit)) end ⌝ }
-{
-    let mut i = 0;
-    while i < text.len() {
-        out[at + i] = text[i];
-        i += 1;
-    }
-    at + i
+    write_hex(out, at_bits, bits_of(x))
 }

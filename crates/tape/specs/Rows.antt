@@ -8,11 +8,12 @@ use mathlib.Core.List.{List, [], _∷_, _++_}
 use lib.IntN.{pos}
 use lib.Ieee.{Float, nan, inf, binary64, ofInt, neg}
 use lib.ListN.{replicate}
+use Rattle.text.specs.Numerals.{bytes, decimal, hex}
 use Rattle.tape.specs.Numbers.{floats}
 use Rattle.tape.specs.Machine.{Arrays, Machine, arrays, machine, slot}
 use Rattle.tape.specs.Handles.{Operand, plain, node}
 use Rattle.tape.specs.Operations.{Given}
-use Rattle.tape.specs.Listing.{bytes, decimal, hex, header, listing}
+use Rattle.tape.specs.Listing.{header, listing}
 use Rattle.tape.specs.Answers.{Answer, refused, done, told, recorded, counted}
 use Rattle.tape.specs.Calls.{Pass, Call, move, start, set-mark, rewind-to-mark, operate, clear, pass, backward, backward-to-mark, backward-mark-to-start, propagate-to-mark, propagate-mark-to-start, value-of, adjoint-of, is-live, list, run}
 use Rattle.tape.specs.Kept.{fresh, after}

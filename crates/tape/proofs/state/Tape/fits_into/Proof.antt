@@ -7,7 +7,7 @@ use Rattle.tape.proofs.state.Tape.fits_into.Statement.{statement}
 use Rattle.tape.proofs.state.Tape.fits_into.Tie as tie
 
 pub fits-into-spec : {M : Type 1} → statement M
-fits-into-spec = tie.close 
+fits-into-spec = tie.close
     (tie.spec
     (λ c. simp (lt-leb (c .before .args .lent .value) 65535 (omega arith)))
     (λ c. search needs)

@@ -7,11 +7,11 @@ use mathlib.Core.List.{List}
 use borrow.Author.Needs.{needs}
 use lib.ListN.{length, set, length-set}
 use lib.Seq.{sets}
-use Rattle.tape.specs.Listing.{digit, digits}
-use Rattle.listing.proofs.Numerals.{length-digits}
-use Rattle.listing.proofs.Stores.{last-first}
-use Rattle.listing.proofs.digits.write_digits.Statement.{statement}
-use Rattle.listing.proofs.digits.write_digits.Tie as tie
+use Rattle.text.specs.Numerals.{digit, digits}
+use Rattle.text.proofs.Numerals.{length-digits}
+use Rattle.text.proofs.Stores.{last-first}
+use Rattle.text.proofs.write.fill.Statement.{statement}
+use Rattle.text.proofs.write.fill.Tie as tie
 
 last-digit : (out : List ℕ) (at base left rest : ℕ) → 0 < left → sets (set out (at + (left - 1)) (digit (rest % base))) at (digits base (left - 1) (rest / base)) ≡ sets out at (digits base left rest)
 last-digit out at base zero rest h = absurd (omega arith)
@@ -34,8 +34,8 @@ loop-again c =
     let at-loop = c .before .before in
     (search needs, simp length-set (search needs), rw (c .digit .ensures) (last-digit _ _ _ _ _ (c .before .loop-test .taken) ∙ at-loop .loop .inv .2))
 
-pub write-digits-spec : {M : Type 1} → statement M
-write-digits-spec =
+pub fill-spec : {M : Type 1} → statement M
+fill-spec =
     tie.close
     (tie.spec
     Inv-loop
@@ -44,5 +44,5 @@ write-digits-spec =
     digit-requires
     (λ c. search needs) (λ c. search needs) (λ c. search needs) (λ c. search needs)
     loop-again
-    (λ c. search needs)
-    (λ c. none-left _ _ _ _ (c .loop-test .left) (c .before .loop .inv .2)))
+    (λ c. search needs) (λ c. search needs)
+    (λ c. let a = c .before .before .before .args in record { bytes = none-left _ _ _ _ (c .loop-test .left) (c .before .loop .inv .2); behind = rw (length-digits (a .base) (a .places) (a .n)) }))

@@ -7,8 +7,8 @@ use mathlib.Core.List.{List}
 use borrow.Author.Needs.{needs}
 use lib.ListN.{length, getD, set, drop, length-set, drop-of-length-le}
 use lib.Seq.{sets, drop-cons}
-use Rattle.listing.proofs.listing.write_text.Statement.{statement}
-use Rattle.listing.proofs.listing.write_text.Tie as tie
+use Rattle.text.proofs.write.copy.Statement.{statement}
+use Rattle.text.proofs.write.copy.Tie as tie
 
 one-more : (out : List ℕ) (at : ℕ) (text : List ℕ) (i : ℕ) → i < length text → sets (set out (at + i) (getD text i 0)) (at + (i + 1)) (drop (i + 1) text) ≡ sets out (at + i) (drop i text)
 one-more out at text i h =
@@ -25,8 +25,8 @@ Inv-loop out₀ at text i₀ out i = (i ≤ length text) × (length out ≡ leng
 abbrev μ-loop : tie.MeasureT-loop
 μ-loop out₀ at text i₀ out i = length text - i
 
-pub write-text-spec : {M : Type 1} → statement M
-write-text-spec =
+pub copy-spec : {M : Type 1} → statement M
+copy-spec =
     tie.close
     (tie.spec
     Inv-loop

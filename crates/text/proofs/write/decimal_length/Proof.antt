@@ -1,8 +1,8 @@
 -- The places found so far, and those of what is left.
 use native.Mathlib.Omega.{arith}
-use Rattle.listing.proofs.Numerals.{Counted, none-counted, one-counted, all-counted}
-use Rattle.listing.proofs.digits.decimal_length.Statement.{statement}
-use Rattle.listing.proofs.digits.decimal_length.Tie as tie
+use Rattle.text.proofs.Numerals.{Counted, none-counted, one-counted, all-counted}
+use Rattle.text.proofs.write.decimal_length.Statement.{statement}
+use Rattle.text.proofs.write.decimal_length.Tie as tie
 
 abbrev Inv-loop : tie.InvT-loop
 Inv-loop n places₀ rest₀ places rest = Counted n places rest

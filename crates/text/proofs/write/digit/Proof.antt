@@ -1,8 +1,8 @@
 -- By the test, on either way.
 use borrow.Author.Needs.{needs}
 use borrow.Author.Tests.{lt-ltb, le-ltb}
-use Rattle.listing.proofs.digits.digit.Statement.{statement}
-use Rattle.listing.proofs.digits.digit.Tie as tie
+use Rattle.text.proofs.write.digit.Statement.{statement}
+use Rattle.text.proofs.write.digit.Tie as tie
 
 pub digit-spec : {M : Type 1} → statement M
 digit-spec =

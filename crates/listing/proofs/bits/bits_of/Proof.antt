@@ -5,8 +5,8 @@ use borrow.Author.Needs.{needs}
 use lib.Dec.{T}
 use lib.Ieee.{Float, nan, inf, fin, binary64, eq, ne, isNan, toBits}
 use lib.Ieee.Compare.{differs-from-itself}
-use Rattle.listing.proofs.digits.bits_of.Statement.{statement}
-use Rattle.listing.proofs.digits.bits_of.Tie as tie
+use Rattle.listing.proofs.bits.bits_of.Statement.{statement}
+use Rattle.listing.proofs.bits.bits_of.Tie as tie
 
 nan-bits : (x : Float) → ne x x ≡ true → toBits binary64 nan ≡ toBits binary64 x
 nan-bits x e = ap (toBits binary64) (sym (differs-from-itself x (subst T (sym e) tt)))

@@ -1,0 +1,5 @@
+pub mod Stores
+pub mod Numerals
+pub mod Reading
+pub mod Rows
+pub mod Proved
