@@ -1,6 +1,8 @@
 // One session: a tape is filled, rewound and stopped, and what is answered on the way is written down, the leaves that fill it in one line.
 use crate::filling;
 use crate::filling::Filled;
+use crate::operations::NEGATE;
+use crate::operations::NOTHING;
 use crate::report;
 use tape::Handle;
 use tape::Operand;
@@ -102,6 +104,8 @@ fn negated(
 ) -> Tape {
     let n = value.len();
     let x = Operand::Node(first);
-    let answer = expr::operators::neg(tape, value, adjoint, serial, count, child, partial, x);
+    let answer = expr::recording::record(
+        tape, value, adjoint, serial, count, child, partial, NEGATE, x, x, NOTHING,
+    );
     report::recorded(n, b"first leaf negated", answer)
 }

@@ -5,9 +5,7 @@ use crate::calls::NO_WORD;
 use crate::calls::REFUSED;
 use crate::calls::Said;
 use crate::calls::VISITED;
-use crate::kinds;
-use crate::kinds::*;
-use crate::nodes::NOTHING;
+use crate::tape_kinds::*;
 use crate::words::digest;
 use dual::Cleared;
 use dual::Passed;
@@ -19,6 +17,7 @@ use dual::passes::backward_to_mark;
 use dual::passes::propagate_mark_to_start;
 use dual::passes::propagate_to_mark;
 use expr::Recorded;
+use expr::Supplied;
 use expr::recording::record;
 use listing::bits_of;
 use tape::Handle;
@@ -54,69 +53,20 @@ pub(crate) fn carry_out(
     kind: usize,
     left: Operand,
     right: Operand,
+    given: Supplied,
 ) -> Heard
-    requires { ⌜ (23 ≤ kind) × (kind < 47) ⌝ }
+    requires { ⌜ kind ≤ 255 ⌝ }
 {
-    if kind < CALLS {
+    if is_operation(kind) {
+        let op = kind as u8;
         return after_recording(record(
-            tape,
-            value,
-            adjoint,
-            serial,
-            count,
-            child,
-            partial,
-            (kind - OPERATIONS) as u8,
-            left,
-            right,
-            NOTHING,
+            tape, value, adjoint, serial, count, child, partial, op, left, right, given,
         ));
     }
-    carry_out_other(
-        tape,
-        value,
-        adjoint,
-        serial,
-        count,
-        child,
-        partial,
-        kind,
-        left,
-    )
-}
-
-// A call that records nothing, and so writes no array but the adjoints.
-fn carry_out_other(
-    tape: Tape,
-    value: &[f64],
-    adjoint: &mut [f64],
-    serial: &[u64],
-    count: &[u8],
-    child: &[u16],
-    partial: &[f64],
-    kind: usize,
-    x: Operand,
-) -> Heard {
-    let heard = answer(tape, value, adjoint, serial, count, child, partial, kind, x);
-    if kinds::is_digested(kind) {
-        return with_digests(heard, value, &*adjoint);
-    }
-    heard
-}
-
-fn answer(
-    tape: Tape,
-    value: &[f64],
-    adjoint: &mut [f64],
-    serial: &[u64],
-    count: &[u8],
-    child: &[u16],
-    partial: &[f64],
-    kind: usize,
-    x: Operand,
-) -> Heard {
-    if kinds::is_pass(kind) {
-        let passed = pass(tape, value, adjoint, serial, count, child, partial, kind, x);
+    if is_pass(kind) {
+        let passed = pass(
+            tape, value, adjoint, serial, count, child, partial, kind, left,
+        );
         return after_pass(tape, passed);
     }
     match kind {
@@ -126,11 +76,11 @@ fn answer(
         ),
         VALUE => after_read(
             tape,
-            dual::reading::value(tape, value, &*adjoint, serial, count, child, partial, x),
+            dual::reading::value(tape, value, adjoint, serial, count, child, partial, left),
         ),
         ADJOINT => after_read(
             tape,
-            dual::reading::adjoint(tape, value, &*adjoint, serial, count, child, partial, x),
+            dual::reading::adjoint(tape, value, adjoint, serial, count, child, partial, left),
         ),
         _ => after_move(moved(tape, kind)),
     }
@@ -234,7 +184,11 @@ fn with_node(mut heard: Heard, node: Handle) -> Heard {
     heard
 }
 
-fn with_digests(mut heard: Heard, value: &[f64], adjoint: &[f64]) -> Heard {
+// With the digests, where a sequence has them after such a call.
+pub(crate) fn with_digests(mut heard: Heard, kind: usize, value: &[f64], adjoint: &[f64]) -> Heard {
+    if !is_digested(kind) {
+        return heard;
+    }
     let length = heard.tape.length;
     heard.values = digest(value, length);
     heard.adjoints = digest(adjoint, length);
