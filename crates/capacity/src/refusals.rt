@@ -121,7 +121,7 @@ fn writing(call: &[u8], room: usize) {
         &count,
         &child,
         &partial,
-        &mut all[..room],
+        &mut all[0..room],
     );
     report::listed(N, call, answer);
     report::kept(N, call, is_bytes(&*all, b'.'));

@@ -105,7 +105,17 @@ fn negated(
     let n = value.len();
     let x = Operand::Node(first);
     let answer = expr::recording::record(
-        tape, value, adjoint, serial, count, child, partial, NEGATE, x, x, NOTHING,
+        tape,
+        value,
+        adjoint,
+        serial,
+        count,
+        child,
+        partial,
+        NEGATE,
+        x,
+        x,
+        NOTHING,
     );
     report::recorded(n, b"first leaf negated", answer)
 }

@@ -1,7 +1,7 @@
 // A line of a sequence: which call it is, what that is given and what the Rust answered.
 use crate::kinds;
-use crate::tape_kinds::KINDS;
 use crate::tape_kinds;
+use crate::tape_kinds::KINDS;
 use crate::tape_kinds::STALE;
 use crate::words::find;
 use text::Parsed;
@@ -177,7 +177,8 @@ fn with_words(kind: usize, stale: bool, words: Words) -> Call {
     let supplied = tape_kinds::supplied_of(kind);
     let given = operands + supplied;
     let answered = tape_kinds::is_answered(kind);
-    let digests = given + one_if(answered);
+    let values = given + one_if(answered);
+    let adjoints = values + 1;
     let digested = tape_kinds::is_digested(kind);
     Call {
         kind,
@@ -188,8 +189,8 @@ fn with_words(kind: usize, stale: bool, words: Words) -> Call {
         left_partial: words.at(operands + 1, supplied > 1),
         right_partial: words.at(operands + 2, supplied > 2),
         answer: words.at(given, answered),
-        values: words.at(digests, digested),
-        adjoints: words.at(digests + 1, digested),
+        values: words.at(values, digested),
+        adjoints: words.at(adjoints, digested),
     }
 }
 

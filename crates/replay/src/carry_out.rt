@@ -25,7 +25,6 @@ use tape::Moved;
 use tape::Operand;
 use tape::Refusal;
 use tape::Tape;
-ghost use Prim.Native.Nat.{_≤_, _<_};
 
 // Stands where no node was recorded: a handle with serial 0 is never live.
 pub const NO_NODE: Handle = Handle {
@@ -54,18 +53,34 @@ pub(crate) fn carry_out(
     left: Operand,
     right: Operand,
     given: Supplied,
-) -> Heard
-    requires { ⌜ kind ≤ 255 ⌝ }
-{
+) -> Heard {
     if is_operation(kind) {
-        let op = kind as u8;
+        let op = operation(kind);
         return after_recording(record(
-            tape, value, adjoint, serial, count, child, partial, op, left, right, given,
+            tape,
+            value,
+            adjoint,
+            serial,
+            count,
+            child,
+            partial,
+            op,
+            left,
+            right,
+            given,
         ));
     }
     if is_pass(kind) {
         let passed = pass(
-            tape, value, adjoint, serial, count, child, partial, kind, left,
+            tape,
+            value,
+            adjoint,
+            serial,
+            count,
+            child,
+            partial,
+            kind,
+            left,
         );
         return after_pass(tape, passed);
     }

@@ -1,12 +1,14 @@
 // What a list has cases of, and the names of its kinds of cases, each with a space after it. A kind is the place of its name.
-use crate::tape_kinds::KINDS;
 use crate::tape_kinds;
+use crate::tape_kinds::KINDS;
 use crate::words::find;
-use crate::words::is_same_text;
+use crate::words::is_first_word;
 
-pub const FORWARD: [u8; 150] = *b"constant var zero one reads add sub mul div rem max_val min_val neg abs add_f64 sub_f64 mul_f64 div_f64 rem_f64 sub_from div_into compare compare_f64 ";
+pub const FORWARD: [u8; 150] =
+    *b"constant var zero one reads add sub mul div rem max_val min_val neg abs add_f64 sub_f64 mul_f64 div_f64 rem_f64 sub_from div_into compare compare_f64 ";
 
-pub const TAPE: [u8; 270] = *b"leaf add sub mul div max min neg supplied_one supplied_two start_recording stop_recording set_mark reset_mark rewind_to_mark rewind_to_init backward backward_to_mark backward_mark_to_start propagate_to_mark propagate_mark_to_start reset_adjoints value adjoint end stale ";
+pub const TAPE: [u8; 270] =
+    *b"leaf add sub mul div max min neg supplied_one supplied_two start_recording stop_recording set_mark reset_mark rewind_to_mark rewind_to_init backward backward_to_mark backward_mark_to_start propagate_to_mark propagate_mark_to_start reset_adjoints value adjoint end stale ";
 
 pub enum Subject {
     Fwd1,
@@ -47,12 +49,11 @@ pub(crate) fn tape_kind(line: &[u8]) -> usize {
 
 // The kind among these names that is the line's first word, or KINDS.
 fn kind_of(names: &[u8], line: &[u8]) -> usize {
-    let word = find(line, 0, b' ');
     let mut kind = 0;
     let mut from = 0;
     while from < names.len() {
         let end = find(names, from, b' ');
-        if is_same_text(&names[from..end], &line[..word]) {
+        if is_first_word(line, &names[from..end]) {
             return kind;
         }
         kind += 1;

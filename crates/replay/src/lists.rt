@@ -23,8 +23,10 @@ pub(crate) fn replay(path: &[u8], subject: Subject) {
         return;
     }
     let name = path.len() - ENDING;
-    let list = &path[..name];
-    let file = os::open_read(path);
+    replay_file(&path[0..name], subject, os::open_read(path));
+}
+
+fn replay_file(list: &[u8], subject: Subject, file: i32) {
     if file < 0 {
         report::unreadable(list);
         return;

@@ -118,7 +118,7 @@ fn word(bits: u64) {
 fn case(list: &[u8], at: u64, line: &[u8]) {
     place(list, at);
     let name = find(line, 0, b' ');
-    text(&line[..name]);
+    text(&line[0..name]);
     text(b" got");
 }
 

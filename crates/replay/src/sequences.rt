@@ -126,15 +126,35 @@ fn one_line(
     let left = operand(&*places, call.left);
     let right = operand(&*places, call.right);
     let heard = carry_out::carry_out(
-        run.tape, value, adjoint, serial, count, child, partial, call.kind, left, right, given(call),
+        run.tape,
+        value,
+        adjoint,
+        serial,
+        count,
+        child,
+        partial,
+        call.kind,
+        left,
+        right,
+        given(call),
     );
     keep(places, heard.node);
-    run.judged(list, line, call, with_digests(heard, call.kind, &*value, &*adjoint))
+    run.judged(
+        list,
+        line,
+        call,
+        with_digests(heard, call.kind, &*value, &*adjoint),
+    )
 }
 
 fn given(call: Call) -> Supplied {
     let count = tape_kinds::supplied_of(call.kind);
-    supplied(count, call.value.bits, call.left_partial.bits, call.right_partial.bits)
+    supplied(
+        count,
+        call.value.bits,
+        call.left_partial.bits,
+        call.right_partial.bits,
+    )
 }
 
 fn operand(places: &[u16], word: Said) -> Operand {

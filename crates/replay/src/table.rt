@@ -94,7 +94,7 @@ fn judge(
     partials: usize,
     case: &Case,
 ) -> Tally
-    requires { ⌜ (kind ≤ 255) × (partials ≤ 2) ⌝ }
+    requires { ⌜ partials ≤ 2 ⌝ }
 {
     let operands = tape_kinds::operands_of(kind);
     let left = Given {
@@ -113,8 +113,14 @@ fn judge(
         case[operands + 1],
         case[operands + 2],
     );
-    let told = node_of(left.on_tape, right.on_tape, operands + count, partials, case);
-    let got = nodes::carry_out(kind as u8, left, right, given);
+    let told = node_of(
+        left.on_tape,
+        right.on_tape,
+        operands + count,
+        partials,
+        case,
+    );
+    let got = nodes::carry_out(tape_kinds::operation(kind), left, right, given);
     let apart = is_apart(kind, left.bits, right.bits);
     if agrees(got, told, apart) {
         return tally.next_case(kind, true, apart);

@@ -59,6 +59,11 @@ pub(crate) fn is_operation(kind: usize) -> bool {
     kind < CALLS
 }
 
+// The number of an operation, and of none for another kind.
+pub(crate) fn operation(kind: usize) -> u8 {
+    if kind < CALLS { kind as u8 } else { u8::MAX }
+}
+
 // Whether the line has what the host supplies.
 pub(crate) fn is_supplied(kind: usize) -> bool {
     (kind == SUPPLIED_ONE) | (kind == SUPPLIED_TWO)
@@ -80,13 +85,7 @@ pub(crate) fn operands_of(kind: usize) -> usize
     match kind {
         LEAF | NEGATE | SUPPLIED_ONE => 1,
         BACKWARD | BACKWARD_TO_MARK | BACKWARD_MARK_TO_START | VALUE | ADJOINT => 1,
-        _ => {
-            if kind < CALLS {
-                2
-            } else {
-                0
-            }
-        }
+        _ => { if kind < CALLS { 2 } else { 0 } }
     }
 }
 

@@ -41,16 +41,14 @@ pub(crate) fn find(line: &[u8], from: usize, byte: u8) -> usize
     line.len()
 }
 
-pub(crate) fn is_same_text(a: &[u8], b: &[u8]) -> bool {
-    if a.len() != b.len() {
-        return false;
-    }
-    for i in 0..a.len() {
-        if a[i] != b[i] {
+// Whether a line begins with the word, and goes on with a space or not at all.
+pub(crate) fn is_first_word(line: &[u8], word: &[u8]) -> bool {
+    for i in 0..word.len() {
+        if byte_at(line, i) != word[i] {
             return false;
         }
     }
-    true
+    (byte_at(line, word.len()) == b' ') | (line.len() == word.len())
 }
 
 // Reads `count` words, the first with its space at `from`, and answers whether all are words.
