@@ -7,13 +7,14 @@ use dual::passes::propagate_to_mark;
 use expr::recording::record;
 use listing::bits_of;
 use listing::listing::list;
+use tape::MOST_EDGES;
 use tape::Operand;
 use tape::Tape;
 
 // The capacity, of which two nodes leave room for a third.
 const N: usize = 3;
 
-const SLOTS: usize = 2 * N;
+const SLOTS: usize = MOST_EDGES * N;
 
 const TWO_NODES: Tape = Tape {
     length: 2,
@@ -32,8 +33,8 @@ pub(crate) fn run() {
     walking(b"three edges", 3, 0);
     walking(b"an edge to its own node", 2, 1);
     walking(b"an edge up", 2, 2);
-    writing(b"listing", 121);
-    writing(b"listing, a byte too long", 120);
+    writing(b"listing", 122);
+    writing(b"listing, a byte too long", 121);
 }
 
 fn with_next(next: u64, active: bool) -> Tape {

@@ -70,18 +70,33 @@ pub(crate) fn carry_out(
             given,
         ));
     }
+    answer(
+        tape,
+        value,
+        adjoint,
+        serial,
+        count,
+        child,
+        partial,
+        kind,
+        left,
+    )
+}
+
+// A call that records nothing, and so writes no array but the adjoints.
+fn answer(
+    tape: Tape,
+    value: &[f64],
+    adjoint: &mut [f64],
+    serial: &[u64],
+    count: &[u8],
+    child: &[u16],
+    partial: &[f64],
+    kind: usize,
+    x: Operand,
+) -> Heard {
     if is_pass(kind) {
-        let passed = pass(
-            tape,
-            value,
-            adjoint,
-            serial,
-            count,
-            child,
-            partial,
-            kind,
-            left,
-        );
+        let passed = pass(tape, value, adjoint, serial, count, child, partial, kind, x);
         return after_pass(tape, passed);
     }
     match kind {
@@ -91,11 +106,11 @@ pub(crate) fn carry_out(
         ),
         VALUE => after_read(
             tape,
-            dual::reading::value(tape, value, adjoint, serial, count, child, partial, left),
+            dual::reading::value(tape, value, &*adjoint, serial, count, child, partial, x),
         ),
         ADJOINT => after_read(
             tape,
-            dual::reading::adjoint(tape, value, adjoint, serial, count, child, partial, left),
+            dual::reading::adjoint(tape, value, &*adjoint, serial, count, child, partial, x),
         ),
         _ => after_move(moved(tape, kind)),
     }

@@ -10,11 +10,9 @@ pub const FORWARD: [u8; 150] =
 pub const TAPE: [u8; 270] =
     *b"leaf add sub mul div max min neg supplied_one supplied_two start_recording stop_recording set_mark reset_mark rewind_to_mark rewind_to_init backward backward_to_mark backward_mark_to_start propagate_to_mark propagate_mark_to_start reset_adjoints value adjoint end stale ";
 
+// Of forward numbers, of an order, or of the tape.
 pub enum Subject {
-    Fwd1,
-    Fwd2,
-    Fwd3,
-    Fwd4,
+    Forward(usize),
     Table,
     Sequences,
     Stale,
@@ -23,10 +21,7 @@ pub enum Subject {
 // Whether a list tells how many cases of a kind it has. A list from before operations 8 and 9 were compared has none of them, and does not tell so.
 pub(crate) fn is_told(subject: Subject, kind: usize, cases: u64) -> bool {
     match subject {
-        Subject::Fwd1 => true,
-        Subject::Fwd2 => true,
-        Subject::Fwd3 => true,
-        Subject::Fwd4 => true,
+        Subject::Forward(_) => true,
         Subject::Table => tape_kinds::is_operation(kind) & is_met(kind, cases),
         Subject::Sequences => (kind != tape_kinds::STALE) & is_met(kind, cases),
         Subject::Stale => kind == tape_kinds::STALE,

@@ -31,10 +31,10 @@ fn main() {
 }
 
 fn forward_lists() {
-    replay(b"fwd1.txt", Subject::Fwd1);
-    replay(b"fwd2.txt", Subject::Fwd2);
-    replay(b"fwd3.txt", Subject::Fwd3);
-    replay(b"fwd4.txt", Subject::Fwd4);
+    replay(b"fwd1.txt", Subject::Forward(1));
+    replay(b"fwd2.txt", Subject::Forward(2));
+    replay(b"fwd3.txt", Subject::Forward(3));
+    replay(b"fwd4.txt", Subject::Forward(4));
 }
 
 fn tape_lists() {
@@ -48,7 +48,7 @@ fn tape_lists() {
 }
 
 fn controls() {
-    replay(b"control.txt", Subject::Fwd1);
+    replay(b"control.txt", Subject::Forward(1));
     replay(b"table_control.txt", Subject::Table);
     replay(b"sequences_control.txt", Subject::Sequences);
     replay(b"sessions_control.txt", Subject::Sequences);

@@ -13,12 +13,9 @@ use crate::words::Answer;
 use crate::words::Case;
 use crate::words::PLACES;
 use crate::words::find;
-ghost use Prim.Native.Nat.{_≤_};
 
 // Carries the line out, tells a difference or that it is no case, and counts it.
-pub(crate) fn replay(list: &[u8], order: usize, line: &[u8], tally: Tally) -> Tally
-    requires { ⌜ order ≤ 4 ⌝ }
-{
+pub(crate) fn replay(list: &[u8], order: usize, line: &[u8], tally: Tally) -> Tally {
     let kind = kinds::forward_kind(line);
     if kind == KINDS {
         return report::malformed(list, tally);

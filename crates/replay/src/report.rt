@@ -132,13 +132,10 @@ fn place(list: &[u8], at: u64) {
 // How many cases there were of each kind, how many of them differ, and how many lines are no case.
 pub(crate) fn summary(list: &[u8], subject: Subject, tally: Tally) {
     match subject {
-        Subject::Fwd1 => each_kind(list, subject, &FORWARD, tally),
-        Subject::Fwd2 => each_kind(list, subject, &FORWARD, tally),
-        Subject::Fwd3 => each_kind(list, subject, &FORWARD, tally),
-        Subject::Fwd4 => each_kind(list, subject, &FORWARD, tally),
-        Subject::Table => each_kind(list, subject, &TAPE, tally),
-        Subject::Sequences => each_kind(list, subject, &TAPE, tally),
-        Subject::Stale => each_kind(list, subject, &TAPE, tally),
+        Subject::Forward(_) => each_kind(list, subject, &FORWARD, tally),
+        Subject::Table => each_of_the_tape(list, subject, tally),
+        Subject::Sequences => each_of_the_tape(list, subject, tally),
+        Subject::Stale => each_of_the_tape(list, subject, tally),
     }
     if tally.runs > 0 {
         text(list);
@@ -148,6 +145,10 @@ pub(crate) fn summary(list: &[u8], subject: Subject, tally: Tally) {
     text(list);
     count(b" malformed=", tally.malformed);
     text(b"\n");
+}
+
+fn each_of_the_tape(list: &[u8], subject: Subject, tally: Tally) {
+    each_kind(list, subject, &TAPE, tally);
 }
 
 fn each_kind(list: &[u8], subject: Subject, names: &[u8], tally: Tally) {

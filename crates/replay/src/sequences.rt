@@ -245,7 +245,7 @@ impl Run {
             run.going = (kind != END) & (kind != STALE);
             return run;
         }
-        report::heard(list, run.tally.lines, line, call.kind, heard);
+        report::heard(list, run.tally.lines, line, kind, heard);
         run.broken()
     }
 
