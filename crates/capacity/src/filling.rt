@@ -9,12 +9,6 @@ ghost use lib.ListN.{length};
 // One entry more than a tape can have.
 pub const TOO_MANY: usize = MOST_NODES + 1;
 
-// Stands where no leaf was recorded: a handle with serial 0 is never live.
-const NO_HANDLE: Handle = Handle {
-    index: 0,
-    serial: 0,
-};
-
 pub struct Filled {
     pub tape: Tape,
     pub first: Handle,
@@ -37,8 +31,8 @@ pub(crate) fn fill(
     let leaves = value.len();
     let mut filled = Filled {
         tape,
-        first: NO_HANDLE,
-        last: NO_HANDLE,
+        first: Handle::NEVER_LIVE,
+        last: Handle::NEVER_LIVE,
         in_order: 0,
     };
     for i in 0..leaves {

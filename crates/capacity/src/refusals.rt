@@ -1,9 +1,8 @@
 // Refusals 2, 6, 7 and 8, each met by a call on a tape of two nodes, and whether the call left what it is lent as it was.
-use crate::operations::ADD;
-use crate::operations::NOTHING;
-use crate::operations::UNKNOWN;
 use crate::report;
 use dual::passes::propagate_to_mark;
+use expr::ADD;
+use expr::Supplied;
 use expr::recording::record;
 use listing::bits_of;
 use listing::listing::list;
@@ -16,16 +15,12 @@ const N: usize = 3;
 
 const SLOTS: usize = MOST_EDGES * N;
 
-const TWO_NODES: Tape = Tape {
-    length: 2,
-    mark: 0,
-    active: true,
-    next: 3,
-};
+// The first number that there is no operation for.
+const UNKNOWN: u8 = 10;
 
 pub(crate) fn run() {
-    recording(b"operation 10", TWO_NODES, UNKNOWN);
-    recording(b"operation 255", TWO_NODES, u8::MAX);
+    recording(b"operation 10", two_nodes(), UNKNOWN);
+    recording(b"operation 255", two_nodes(), u8::MAX);
     recording(b"last serial but one", with_next(u64::MAX - 1, true), ADD);
     recording(b"last serial", with_next(u64::MAX, true), ADD);
     recording(b"last serial, stopped", with_next(u64::MAX, false), ADD);
@@ -37,13 +32,17 @@ pub(crate) fn run() {
     writing(b"listing, a byte too long", 121);
 }
 
+// Two nodes, as two leaves leave them.
+fn two_nodes() -> Tape {
+    with_next(3, true)
+}
+
 fn with_next(next: u64, active: bool) -> Tape {
-    Tape {
-        length: 2,
-        mark: 0,
-        active,
-        next,
-    }
+    let mut tape = Tape::new();
+    tape.length = 2;
+    tape.active = active;
+    tape.next = next;
+    tape
 }
 
 // Records an operation on plain numbers.
@@ -65,7 +64,7 @@ fn recording(call: &[u8], tape: Tape, op: u8) {
         op,
         Operand::Number(2.5),
         Operand::Number(1.0),
-        NOTHING,
+        Supplied::NONE,
     );
     let after = report::recorded(N, call, answer);
     let kept = is_state(after, tape)
@@ -89,7 +88,7 @@ fn walking(call: &[u8], edges: u8, to: u16) {
     count[1] = edges;
     child[3] = to;
     let answer = propagate_to_mark(
-        TWO_NODES,
+        two_nodes(),
         &value,
         &mut adjoint,
         &serial,
@@ -115,7 +114,7 @@ fn writing(call: &[u8], room: usize) {
         return;
     }
     let answer = list(
-        TWO_NODES,
+        two_nodes(),
         &value,
         &adjoint,
         &serial,

@@ -2,9 +2,9 @@
 use crate::filling;
 use crate::filling::Filled;
 use crate::filling::TOO_MANY;
-use crate::operations::NEGATE;
-use crate::operations::NOTHING;
 use crate::report;
+use expr::NEGATE;
+use expr::Supplied;
 use tape::Handle;
 use tape::Operand;
 use tape::Tape;
@@ -116,7 +116,7 @@ fn negated(
         NEGATE,
         x,
         x,
-        NOTHING,
+        Supplied::NONE,
     );
     report::recorded(n, b"first leaf negated", answer)
 }

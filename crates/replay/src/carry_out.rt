@@ -26,12 +26,6 @@ use tape::Operand;
 use tape::Refusal;
 use tape::Tape;
 
-// Stands where no node was recorded: a handle with serial 0 is never live.
-pub const NO_NODE: Handle = Handle {
-    index: 0,
-    serial: 0,
-};
-
 // What the port answered, the node that it recorded, the tape after the call and, where a sequence has them, the digests of all values and adjoints on it.
 pub struct Heard {
     pub answer: Said,
@@ -202,7 +196,7 @@ fn number(tape: Tape, letter: u8, bits: u64) -> Heard {
 fn answered(tape: Tape, answer: Said) -> Heard {
     Heard {
         answer,
-        node: NO_NODE,
+        node: Handle::NEVER_LIVE,
         tape,
         values: 0,
         adjoints: 0,

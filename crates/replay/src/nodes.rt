@@ -5,6 +5,7 @@ use expr::Supplied;
 use expr::recording::record;
 use listing::bits_of;
 use tape::Handle;
+use tape::MOST_EDGES;
 use tape::Operand;
 use tape::Tape;
 ghost use Prim.Native.Nat.{_<_};
@@ -12,7 +13,7 @@ ghost use Prim.Native.Nat.{_<_};
 // Two operands, the node, and one to spare.
 const CAPACITY: usize = 4;
 
-const SLOTS: usize = 2 * CAPACITY;
+const SLOTS: usize = MOST_EDGES * CAPACITY;
 
 // What the arrays hold at first, no count or child that a node here can have and an unlikely float, so that what the port leaves unwritten is seen.
 pub const NO_COUNT: u8 = 0xff;
@@ -20,14 +21,6 @@ pub const NO_COUNT: u8 = 0xff;
 pub const NO_CHILD: u16 = 0xffff;
 
 pub const UNLIKELY: f64 = 0.7;
-
-// The tape as two leaves leave it.
-const TWO_LEAVES: Tape = Tape {
-    length: 2,
-    mark: 0,
-    active: true,
-    next: 3,
-};
 
 const FIRST: Handle = Handle {
     index: 0,
@@ -77,7 +70,8 @@ fn float_if(there: bool, bits: u64) -> f64 {
     if there { float_of(bits) } else { UNLIKELY }
 }
 
-// Records the operation beside two leaves, the first worth its first operand that is on the tape and the second its right one.
+// Records the operation beside two leaves: the first has the value of the first operand that is on the tape, the second
+// that of the right one.
 pub(crate) fn carry_out(op: u8, left: Given, right: Given, given: Supplied) -> Outcome {
     let mut value = [UNLIKELY; CAPACITY];
     let mut adjoint = [UNLIKELY; CAPACITY];
@@ -91,7 +85,7 @@ pub(crate) fn carry_out(op: u8, left: Given, right: Given, given: Supplied) -> O
     serial[0] = 1;
     serial[1] = 2;
     let recorded = record(
-        TWO_LEAVES,
+        two_leaves(),
         &mut value,
         &mut adjoint,
         &mut serial,
@@ -108,6 +102,15 @@ pub(crate) fn carry_out(op: u8, left: Given, right: Given, given: Supplied) -> O
         Recorded::Detached(_, _) => Outcome::NoNode,
         Recorded::Refused(refusal, _) => Outcome::Refused(refusal.number()),
     }
+}
+
+// The tape as two leaves leave it.
+fn two_leaves() -> Tape {
+    let mut tape = Tape::new();
+    tape.length = 2;
+    tape.active = true;
+    tape.next = 3;
+    tape
 }
 
 // The operand as the port takes it, the first or the second leaf where it is on the tape.
@@ -131,7 +134,7 @@ fn node_at(
     if index >= CAPACITY {
         return Outcome::NoNode;
     }
-    let first = 2 * index;
+    let first = MOST_EDGES * index;
     Outcome::Node(Node {
         value: bits_of(v),
         count: count[index],

@@ -6,7 +6,6 @@ use crate::calls::REFUSED;
 use crate::calls::Said;
 use crate::carry_out;
 use crate::carry_out::Heard;
-use crate::carry_out::NO_NODE;
 use crate::carry_out::with_digests;
 use crate::nodes::NO_CHILD;
 use crate::nodes::NO_COUNT;
@@ -166,7 +165,7 @@ fn operand(places: &[u16], word: Said) -> Operand {
 
 fn handle(places: &[u16], serial: u64) -> Handle {
     if serial >= places.len() as u64 {
-        return NO_NODE;
+        return Handle::NEVER_LIVE;
     }
     let at = serial as usize;
     handle_at(places[at], serial)

@@ -1,17 +1,17 @@
 // The kinds of cases of the tape, in the order of their names: the operations by their numbers, then the other lines of a sequence.
 ghost use Prim.Native.Nat.{_≤_};
 
-const LEAF: usize = 0;
+const LEAF: usize = expr::LEAF as usize;
 
-const MAX: usize = 5;
+const MAX: usize = expr::MAX as usize;
 
-const MIN: usize = 6;
+const MIN: usize = expr::MIN as usize;
 
-const NEGATE: usize = 7;
+const NEGATE: usize = expr::NEGATE as usize;
 
-const SUPPLIED_ONE: usize = 8;
+const SUPPLIED_ONE: usize = expr::SUPPLIED_ONE as usize;
 
-const SUPPLIED_TWO: usize = 9;
+const SUPPLIED_TWO: usize = expr::SUPPLIED_TWO as usize;
 
 // The calls that record nothing: those that move the mark or the length first, then the passes.
 const CALLS: usize = SUPPLIED_TWO + 1;
