@@ -1,9 +1,13 @@
 // Leaves asked for one after another, as many as the arrays have entries, and what their answers come to.
 use expr::Recorded;
 use tape::Handle;
+use tape::MOST_NODES;
 use tape::Tape;
 ghost use Prim.Native.Nat.{_≤_, _<_};
 ghost use lib.ListN.{length};
+
+// One entry more than a tape can have.
+pub const TOO_MANY: usize = MOST_NODES + 1;
 
 // Stands where no leaf was recorded: a handle with serial 0 is never live.
 const NO_HANDLE: Handle = Handle {
@@ -28,7 +32,7 @@ pub(crate) fn fill(
     child: &mut [u16],
     partial: &mut [f64],
 ) -> Filled
-    requires { ⌜ length (now value) ≤ 65536 ⌝ }
+    requires { do ⌜ length (now value) ≤ (← ⟦TOO_MANY⟧) ⌝ }
 {
     let leaves = value.len();
     let mut filled = Filled {
@@ -54,7 +58,7 @@ fn one_more(
     child: &mut [u16],
     partial: &mut [f64],
 ) -> Filled
-    requires { ⌜ i < 65536 ⌝ }
+    requires { do ⌜ i < (← ⟦TOO_MANY⟧) ⌝ }
 {
     let x = i as u16 as f64;
     let tape = filled.tape;
@@ -67,7 +71,7 @@ fn one_more(
 
 impl Filled {
     fn with(self, tape: Tape, handle: Handle, i: usize, same: bool) -> Filled
-        requires { ⌜ i < 65536 ⌝ }
+        requires { do ⌜ i < (← ⟦TOO_MANY⟧) ⌝ }
     {
         Filled {
             tape,
@@ -88,7 +92,7 @@ fn earlier(first: Handle, handle: Handle) -> Handle {
 }
 
 fn reached(in_order: usize, handle: Handle, i: usize, same: bool) -> usize
-    requires { ⌜ i < 65536 ⌝ }
+    requires { do ⌜ i < (← ⟦TOO_MANY⟧) ⌝ }
 {
     let next = i + 1;
     if (in_order == i) & (handle.index == i) & (handle.serial == next as u64) & same {

@@ -1,6 +1,9 @@
 // One session: a tape is filled, rewound and stopped, and what is answered on the way is written down, the leaves that fill it in one line.
 use crate::filling;
 use crate::filling::Filled;
+use crate::filling::TOO_MANY;
+use crate::operations::NEGATE;
+use crate::operations::NOTHING;
 use crate::report;
 use tape::Handle;
 use tape::Operand;
@@ -16,7 +19,7 @@ pub(crate) fn run(
     child: &mut [u16],
     partial: &mut [f64],
 )
-    requires { ⌜ length (now value) ≤ 65536 ⌝ }
+    requires { do ⌜ length (now value) ≤ (← ⟦TOO_MANY⟧) ⌝ }
 {
     let filled = fill_up(value, adjoint, serial, count, child, partial);
     wind_down(filled, value, adjoint, serial, count, child, partial);
@@ -30,7 +33,7 @@ fn fill_up(
     child: &mut [u16],
     partial: &mut [f64],
 ) -> Filled
-    requires { ⌜ length (now value) ≤ 65536 ⌝ }
+    requires { do ⌜ length (now value) ≤ (← ⟦TOO_MANY⟧) ⌝ }
 {
     let n = value.len();
     let tape = report::moved(n, b"start", Tape::new().start_recording());
@@ -102,6 +105,18 @@ fn negated(
 ) -> Tape {
     let n = value.len();
     let x = Operand::Node(first);
-    let answer = expr::operators::neg(tape, value, adjoint, serial, count, child, partial, x);
+    let answer = expr::recording::record(
+        tape,
+        value,
+        adjoint,
+        serial,
+        count,
+        child,
+        partial,
+        NEGATE,
+        x,
+        x,
+        NOTHING,
+    );
     report::recorded(n, b"first leaf negated", answer)
 }

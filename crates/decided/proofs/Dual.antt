@@ -1,4 +1,5 @@
--- A read's answer is what the machine's step gives, and so are the answer of clearing or of a pass and the adjoints that it leaves.
+-- A read's answer is what the machine's step gives, and so are the answer of clearing or of a pass and the adjoints
+-- that it leaves.
 use mathlib.Core.List.{List}
 use lib.Ieee.{Float}
 use Rattle.tape.specs.Numbers.{floats}

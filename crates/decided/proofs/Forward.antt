@@ -1,4 +1,5 @@
--- Each function of the forward numbers answers what its rule gives: a float, a test, or a number that one struct alone holds.
+-- Each function of the forward numbers answers what its rule gives: a float, a test, or a number that one struct alone
+-- holds.
 use Rattle.forward.proofs.OneToOne.{one-to-one}
 use Rattle.decided.specs.Forward.{Compared, Order1, Order2, Order3, Order4}
 use Rattle.decided.proofs.Rules.{equal, told-by}

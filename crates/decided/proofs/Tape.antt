@@ -1,4 +1,5 @@
--- A lookup and the admission are given by their rules; a move answers the machine's step whatever arrays the caller keeps, so beside empty ones.
+-- A lookup and the admission are given by their rules; a move answers the machine's step whatever arrays the caller
+-- keeps, so beside empty ones.
 use mathlib.Core.Path.{_≡_}
 use mathlib.Core.List.{[]}
 use Rattle.tape.specs.Numbers.{floats}

@@ -1,5 +1,8 @@
--- Every promise of the library crates decides the answer and what is left in each lent array. Read `Decided`, then a list for each crate, in which each public function stands once; `Open` has promises that do not decide.
--- `Tried` says what it is to try a wrong answer on a promise; `WrongNumbers`, `WrongCalls` and `WrongText` have two or more for each function.
+-- Every promise of the library crates decides the answer and what is left in each lent array. Read `Decided`, then a
+-- list for each crate, in which each public function stands once: tools/promises, which the gate runs, compares these
+-- lists with every `pub fn`. `Open` has promises that do not decide.
+-- `Tried` says what it is to try a wrong answer on a promise; `WrongNumbers`, `WrongCalls` and `WrongText` have two or
+-- more for each function.
 pub mod Decided
 pub mod Forward
 pub mod Tape

@@ -1,4 +1,6 @@
--- Wrong answers that the promises of crates `tape`, `expr`, `dual` and `listing` rule out, two or more for each function, and three wrong programs for every call. `Tried` says what a row is; `CallsTried` is proved in proofs/Wrong.antt, by computation.
+-- Wrong answers that the promises of crates `tape`, `expr`, `dual` and `listing` rule out, two or more for each
+-- function, and three wrong programs for every call. `Tried` says what a row is; `CallsTried` is proved in
+-- proofs/Wrong.antt, by computation.
 use Prim.Native.Nat.{ℕ}
 use mathlib.Core.Path.{_≡_}
 use mathlib.Core.Bool.{Bool, true, false, cond}
@@ -7,7 +9,7 @@ use mathlib.Core.Option.{Option, none, some}
 use lib.Ieee.{Float, nan, binary64, div, neg as minus}
 use lib.ListN.{set, take, replicate}
 use Rattle.tape.specs.Numbers.{floats}
-use Rattle.tape.specs.Machine.{Arrays, Machine, arrays, machine, new-tape}
+use Rattle.tape.specs.Machine.{Arrays, Machine, arrays, machine, new-tape, state}
 use Rattle.tape.specs.Handles.{Operand, plain, node, looked-up, usable-as}
 use Rattle.tape.specs.Operations.{ADD, SUBTRACT, MULTIPLY, DIVIDE, MAX, MIN, NEGATE, SUPPLIED-ONE, SUPPLIED-TWO}
 use Rattle.tape.specs.Walk.{Edge}
@@ -96,9 +98,6 @@ one = floats .one
 abbrev pub over : ℕ → ℕ → Float
 over a b = div binary64 (float a) (float b)
 
-abbrev pub state : ℕ → ℕ → Bool → ℕ → Tape
-state length mark active next = record { length = length; mark = mark; active = active; next = next }
-
 -- a tape of four nodes' room, 9 the next serial
 abbrev pub kept : ℕ → ℕ → Bool → Machine floats
 kept length mark active = machine (state length mark active 9) (sevens 4)
@@ -109,7 +108,8 @@ a-move m wrong = a-step (step (move m) (kept 3 1 true)) (done, machine wrong (se
 
 -- five adjoints where four nodes have room
 abbrev pub longer : Arrays floats
-longer = arrays (sevens 4 .value) (sevens 5 .adjoint) (sevens 4 .serial) (sevens 4 .count) (sevens 4 .child) (sevens 4 .partial)
+longer =
+    arrays (sevens 4 .value) (sevens 5 .adjoint) (sevens 4 .serial) (sevens 4 .count) (sevens 4 .child) (sevens 4 .partial)
 
 -- leaves 3 and 2, and room for one more node
 abbrev pub two : Machine floats
@@ -145,7 +145,8 @@ abbrev pub with-adjoint : Float → Answer floats × Machine floats → Answer f
 with-adjoint a (x, M) = (x, with-adjoints M (set (M .lent .adjoint) 2 a))
 
 abbrev pub with-partial : Float → Answer floats × Machine floats → Answer floats × Machine floats
-with-partial p (x, M) = (x, machine (M .state) (arrays (M .lent .value) (M .lent .adjoint) (M .lent .serial) (M .lent .count) (M .lent .child) (set (M .lent .partial) 4 p)))
+with-partial p (x, M) =
+    (x, machine (M .state) (arrays (M .lent .value) (M .lent .adjoint) (M .lent .serial) (M .lent .count) (M .lent .child) (set (M .lent .partial) 4 p)))
 
 -- 5 - x1 with its one edge in the node's second slot
 abbrev pub in-second-slot : Answer floats × Machine floats
@@ -180,7 +181,8 @@ usable-tried = a-usable (usable-as (state 1 0 true 10) (7 ∷ 9 ∷ []) (handle 
 
 -- Lengths::of: the capacity in place of the adjoints' own length; children counted by the node
 abbrev pub lengths-of-tried : List Tried
-lengths-of-tried = a-size (lengths longer) (record { value = 4; adjoint = 4; serial = 4; count = 4; child = 8; partial = 8 })
+lengths-of-tried =
+    a-size (lengths longer) (record { value = 4; adjoint = 4; serial = 4; count = 4; child = 8; partial = 8 })
     ∷ a-size (lengths (sevens 4)) (record { value = 4; adjoint = 4; serial = 4; count = 4; child = 4; partial = 8 }) ∷ []
 
 -- new: an active tape; a first serial of 0
@@ -218,7 +220,8 @@ abbrev pub rewind-to-init-tried : List Tried
 rewind-to-init-tried = a-step (step (move rewind-to-init) (kept 3 1 false)) (done, kept 0 0 true)
     ∷ a-move rewind-to-init (state 0 0 true 1) ∷ []
 
--- admit: a length over the capacity let through; an array longer than it has to be; a move refused for the arrays, which it is not lent
+-- admit: a length over the capacity let through; an array longer than it has to be; a move refused for the arrays,
+-- which it is not lent
 abbrev pub admit-tried : List Tried
 admit-tried = an-admission (admitted (let-in caller.Recording (kept 5 0 true))) admission.Granted
     ∷ an-admission (admitted (let-in caller.Listing (machine (state 1 0 true 9) longer))) admission.Granted
@@ -226,9 +229,11 @@ admit-tried = an-admission (admitted (let-in caller.Recording (kept 5 0 true))) 
 
 -- ---- wrong answers: expr
 
--- record: the new node's adjoint as its value; a right handle that is not live refused at NEGATE, which does not use it; operation 10 recorded; a node recorded past the capacity, or with the last serial
+-- record: the new node's adjoint as its value; a right handle that is not live refused at NEGATE, which does not use
+-- it; operation 10 recorded; a node recorded past the capacity, or with the last serial
 abbrev pub record-tried : List Tried
-record-tried = a-step (step (binary NEGATE x0 unused) two) (with-adjoint (minus (float 3)) (recording (minus (float 3)) (to 0 (minus one) ∷ [])))
+record-tried =
+    a-step (step (binary NEGATE x0 unused) two) (with-adjoint (minus (float 3)) (recording (minus (float 3)) (to 0 (minus one) ∷ [])))
     ∷ a-step (step (binary NEGATE x0 stale) two) (refused Refusal·NotLive, two)
     ∷ a-step (step (binary 10 x0 x1) two) (recording nan [])
     ∷ a-step (step (binary NEGATE x0 unused) full) (recorded (minus (float 3)) (issued (full .state)), written full (minus (float 3)) (to 0 (minus one) ∷ []))
@@ -261,7 +266,8 @@ multiply-tried = a-step (step (binary MULTIPLY x0 x1) two) (recording (float 6) 
 
 -- record DIVIDE: the left partial as l / r; a refusal at r = 0
 abbrev pub divide-tried : List Tried
-divide-tried = a-step (step (binary DIVIDE x0 x1) two) (recording (over 3 2) (to 0 (over 3 2) ∷ to 1 (minus (over 3 4)) ∷ []))
+divide-tried =
+    a-step (step (binary DIVIDE x0 x1) two) (recording (over 3 2) (to 0 (over 3 2) ∷ to 1 (minus (over 3 4)) ∷ []))
     ∷ a-step (step (binary DIVIDE x0 (plain nought)) two) (refused UnknownOperation, two) ∷ []
 
 -- record MAX: a partial of 1 at a tie; the number in place of a NaN on the right
@@ -279,14 +285,17 @@ abbrev pub negate-tried : List Tried
 negate-tried = a-step (step (binary NEGATE (plain nought) unused) two) (recording (minus nought) [])
     ∷ a-step (step (binary NEGATE x0 unused) two) (recording (minus (float 3)) (to 0 one ∷ [])) ∷ []
 
--- record SUPPLIED_ONE: the supplied partial stored where the operand is a number; a handle that is not live let through, since its value is not used
+-- record SUPPLIED_ONE: the supplied partial stored where the operand is a number; a handle that is not live let
+-- through, since its value is not used
 abbrev pub supplied-one-tried : List Tried
-supplied-one-tried = a-step (step (operate SUPPLIED-ONE (plain (float 5)) unused (given (float 9) (float 8) nought)) two) (with-partial (float 8) (recording (float 9) []))
+supplied-one-tried =
+    a-step (step (operate SUPPLIED-ONE (plain (float 5)) unused (given (float 9) (float 8) nought)) two) (with-partial (float 8) (recording (float 9) []))
     ∷ a-step (step (operate SUPPLIED-ONE stale unused (given (float 9) (float 8) nought)) two) (recording (float 9) (to 1 (float 8) ∷ [])) ∷ []
 
 -- record SUPPLIED_TWO: the right edge before the left; the value reckoned from the operands
 abbrev pub supplied-two-tried : List Tried
-supplied-two-tried = a-step (step (operate SUPPLIED-TWO x0 x1 (given (float 9) (float 8) (float 4))) two) (recording (float 9) (to 1 (float 4) ∷ to 0 (float 8) ∷ []))
+supplied-two-tried =
+    a-step (step (operate SUPPLIED-TWO x0 x1 (given (float 9) (float 8) (float 4))) two) (recording (float 9) (to 1 (float 4) ∷ to 0 (float 8) ∷ []))
     ∷ a-step (step (operate SUPPLIED-TWO x0 x1 (given (float 9) (float 8) (float 4))) two) (recording (float 5) (to 0 (float 8) ∷ to 1 (float 4) ∷ [])) ∷ []
 
 -- ---- wrong answers: dual
@@ -318,29 +327,35 @@ backward-tried = a-step (step (pass (backward (node-at 2))) (marked 2)) (passed 
 
 -- backward_to_mark: 1.0 added to the root's adjoint; a walk that begins at the root
 abbrev pub backward-to-mark-tried : List Tried
-backward-to-mark-tried = a-step (step (pass (backward-to-mark (node-at 3))) (marked 2)) (passed (marked 2) 4 (11 ∷ 12 ∷ 3 ∷ 2 ∷ 7 ∷ []))
+backward-to-mark-tried =
+    a-step (step (pass (backward-to-mark (node-at 3))) (marked 2)) (passed (marked 2) 4 (11 ∷ 12 ∷ 3 ∷ 2 ∷ 7 ∷ []))
     ∷ a-step (step (pass (backward-to-mark (node-at 2))) (marked 2)) (passed (marked 2) 2 (5 ∷ 6 ∷ 1 ∷ 1 ∷ 7 ∷ [])) ∷ []
 
 -- backward_mark_to_start: the edges of a root past the mark walked; the node at the mark walked too
 abbrev pub backward-mark-to-start-tried : List Tried
-backward-mark-to-start-tried = a-step (step (pass (backward-mark-to-start (node-at 3))) (marked 2)) (passed (marked 2) 2 (4 ∷ 3 ∷ 2 ∷ 1 ∷ 7 ∷ []))
+backward-mark-to-start-tried =
+    a-step (step (pass (backward-mark-to-start (node-at 3))) (marked 2)) (passed (marked 2) 2 (4 ∷ 3 ∷ 2 ∷ 1 ∷ 7 ∷ []))
     ∷ a-step (step (pass (backward-mark-to-start (node-at 0))) (marked 2)) (passed (marked 2) 2 (3 ∷ 6 ∷ 1 ∷ 1 ∷ 7 ∷ [])) ∷ []
 
 -- propagate_to_mark: the nodes below the mark walked too; the range walked from its lowest index up
 abbrev pub propagate-to-mark-tried : List Tried
-propagate-to-mark-tried = a-step (step (pass propagate-to-mark) (marked 3)) (passed (marked 3) 4 (8 ∷ 9 ∷ 2 ∷ 1 ∷ 7 ∷ []))
+propagate-to-mark-tried =
+    a-step (step (pass propagate-to-mark) (marked 3)) (passed (marked 3) 4 (8 ∷ 9 ∷ 2 ∷ 1 ∷ 7 ∷ []))
     ∷ a-step (step (pass propagate-to-mark) (marked 2)) (passed (marked 2) 4 (6 ∷ 6 ∷ 2 ∷ 1 ∷ 7 ∷ [])) ∷ []
 
 -- propagate_mark_to_start: a count of 0; a count of the nodes
 abbrev pub propagate-mark-to-start-tried : List Tried
-propagate-mark-to-start-tried = a-step (step (pass propagate-mark-to-start) (marked 3)) (passed (marked 3) 0 (5 ∷ 6 ∷ 1 ∷ 1 ∷ 7 ∷ []))
+propagate-mark-to-start-tried =
+    a-step (step (pass propagate-mark-to-start) (marked 3)) (passed (marked 3) 0 (5 ∷ 6 ∷ 1 ∷ 1 ∷ 7 ∷ []))
     ∷ a-step (step (pass propagate-mark-to-start) (marked 3)) (passed (marked 3) 3 (5 ∷ 6 ∷ 1 ∷ 1 ∷ 7 ∷ [])) ∷ []
 
 -- ---- wrong answers: listing
 
--- list: bytes written where the listing does not fit; a listing refused that fits to the last byte; the bytes after it cleared; the bytes left as they were
+-- list: bytes written where the listing does not fit; a listing refused that fits to the last byte; the bytes after it
+-- cleared; the bytes left as they were
 abbrev pub list-tried : List Tried
-list-tried = a-listing (listed (marked 2) (replicate 10 120)) ((refused ListingTooLong, marked 2), take 10 (listing (marked 2)))
+list-tried =
+    a-listing (listed (marked 2) (replicate 10 120)) ((refused ListingTooLong, marked 2), take 10 (listing (marked 2)))
     ∷ a-listing (listed (marked 2) (replicate 220 120)) ((refused ListingTooLong, marked 2), replicate 220 120)
     ∷ a-listing (listed (marked 2) (replicate 221 120)) ((counted 220, marked 2), listing (marked 2) ++ (0 ∷ []))
     ∷ a-listing (listed (marked 2) (replicate 220 120)) ((counted 220, marked 2), replicate 220 120) ∷ []
@@ -364,7 +379,8 @@ passes =
 
 -- each call that changes the machine
 abbrev pub changes : List (Call floats × Machine floats)
-changes = map (λ m. (move m, kept 3 1 true)) (start ∷ stop ∷ set-mark ∷ reset-mark ∷ rewind-to-mark ∷ rewind-to-init ∷ []) ++ ((binary MULTIPLY x0 x1, two) ∷ (clear, marked 2) ∷ passes)
+changes =
+    map (λ m. (move m, kept 3 1 true)) (start ∷ stop ∷ set-mark ∷ reset-mark ∷ rewind-to-mark ∷ rewind-to-init ∷ []) ++ ((binary MULTIPLY x0 x1, two) ∷ (clear, marked 2) ∷ passes)
 
 -- and those that read it
 abbrev pub readings : List (Call floats × Machine floats)
@@ -380,7 +396,8 @@ untouched-tried = map (λ (c, M). a-step (step c M) (step c M .0, M)) changes
 
 -- of a pass: the right count, and each live adjoint x
 abbrev pub each-adjoint : Float → List Tried
-each-adjoint x = map (λ (c, M). a-step (step c M) (step c M .0, with-adjoints M (replicate 4 x ++ (float 7 ∷ [])))) passes
+each-adjoint x =
+    map (λ (c, M). a-step (step c M) (step c M .0, with-adjoints M (replicate 4 x ++ (float 7 ∷ [])))) passes
 
 abbrev pub nought-or-one-tried : List Tried
 nought-or-one-tried = each-adjoint nought ++ each-adjoint one

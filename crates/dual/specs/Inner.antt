@@ -1,8 +1,10 @@
--- What the private functions promise: the rule as the code goes about it. Only their proofs use it; every public promise speaks of `step`.
+-- What the private functions promise: the rule as the code goes about it. Only their proofs use it; every public
+-- promise speaks of `step`.
 use Prim.Native.Nat.{ℕ, _+_, _-_, _≤_, _<_}
 use mathlib.Core.Path.{_≡_}
 use mathlib.Core.Bool.{Bool, true}
 use mathlib.Core.List.{List, [], _∷_, map}
+use mathlib.Core.Option.{Option, none, some}
 use lib.Ieee.{Float, nan}
 use lib.ListN.{length, getD}
 use Rattle.tape.specs.Numbers.{floats}
@@ -11,6 +13,7 @@ use Rattle.tape.specs.Handles.{Operand, plain, node, operand, looked-up, usable
 use Rattle.tape.specs.Walk.{walk, edges-at, indexes, visited, sound}
 use Rattle.tape.specs.Answers.{Answer, refused, counted}
 use Rattle.tape.specs.Calls.{Pass, backward, backward-to-mark, backward-mark-to-start, propagate-to-mark, propagate-mark-to-start, Plan, range, walked}
+use Rattle.tape.specs.declared.errors.Refusal.{Refusal}
 use Rattle.tape.specs.declared.errors.Refusal.the-variants.{Detached}
 use Rattle.tape.specs.declared.node.Handle.{Handle}
 use Rattle.tape.specs.declared.node.Lookup.{Lookup}
@@ -25,7 +28,8 @@ use Rattle.dual.specs.declared.reading.Read as read
 use Rattle.dual.specs.declared.reading.Liveness as liveness
 use Rattle.dual.specs.declared.planning.Pass as passes
 use Rattle.dual.specs.declared.planning.Span.{Span}
-use Rattle.dual.specs.declared.planning.Planned as planned
+use Rattle.dual.specs.declared.planning.Planned as code-plan
+use Rattle.dual.specs.declared.planning.Found as found
 use Rattle.dual.specs.declared.planning.Root as root
 
 -- ---- reads
@@ -56,9 +60,9 @@ liveness-behind t serials (code.the-variants.Node h) = liveness-of (looked-up t 
 -- ---- plans
 
 -- the root of a pass that is let in
-abbrev pub root-if : Admission → root.Root → root.Root
+abbrev pub root-if : Admission → found.Found → found.Found
 root-if admission.Granted r = r
-root-if (admission.Refused k) r = root.the-variants.Refused k
+root-if (admission.Refused k) r = found.the-variants.Refused k
 
 -- the code's pass
 abbrev pub pass-of : passes.Pass → Pass floats
@@ -68,17 +72,33 @@ pass-of (passes.the-variants.BackwardMarkToStart x) = backward-mark-to-start (op
 pass-of passes.the-variants.PropagateToMark = propagate-to-mark
 pass-of passes.the-variants.PropagateMarkToStart = propagate-mark-to-start
 
-abbrev pub root-by : Usable → Handle → root.Root
-root-by usable.Live h = root.the-variants.At h
-root-by (usable.Refused r) h = root.the-variants.Refused r
+abbrev pub root-by : Usable → Handle → found.Found
+root-by usable.Live h = found.the-variants.Root (root.the-variants.At h)
+root-by (usable.Refused r) h = found.the-variants.Refused r
 
-abbrev pub found-root : Tape → List ℕ → List (Operand floats) → root.Root
-found-root t serials [] = root.the-variants.None
-found-root t serials (plain x ∷ os) = root.the-variants.Refused Detached
+abbrev pub found-root : Tape → List ℕ → List (Operand floats) → found.Found
+found-root t serials [] = found.the-variants.Root root.the-variants.None
+found-root t serials (plain x ∷ os) = found.the-variants.Refused Detached
 found-root t serials (node h ∷ os) = root-by (usable-as t serials h) h
+
+-- a plan's root, as the code has it; a number is no root, and refused
+abbrev pub root-of : List (Operand floats) → root.Root
+root-of [] = root.the-variants.None
+root-of (plain x ∷ os) = root.the-variants.None
+root-of (node h ∷ os) = root.the-variants.At h
+
+-- and the other way
+abbrev pub operands-of : root.Root → List (Operand floats)
+operands-of root.the-variants.None = []
+operands-of (root.the-variants.At h) = node h ∷ []
 
 abbrev pub span-of : Plan floats → Span
 span-of P = record { from = P .from; end = P .end }
+
+-- the plan, unless the pass is refused
+abbrev pub planned : Option Refusal → Plan floats → code-plan.Planned
+planned none P = code-plan.the-variants.Walk (root-of (P .root)) (span-of P)
+planned (some r) P = code-plan.the-variants.Refused r
 
 -- the arrays that a walk reads
 abbrev pub edge-arrays : List ℕ → List ℕ → List Float → Arrays floats
@@ -94,10 +114,11 @@ abbrev pub all-sound : List ℕ → List ℕ → Span → Bool
 all-sound counts children s = all (map (sound-edges counts children) (inside s))
 
 -- what a plan comes to, carried out
-abbrev pub carried-out : planned.Planned → Machine floats → Answer floats × Machine floats
-carried-out (planned.the-variants.Refused r) M = (refused r, M)
-carried-out (planned.the-variants.Rooted h s) M = let P : Plan floats = record { root = node h ∷ []; from = s .from; end = s .end } in (counted (visited (M .lent) (range P)), walked P M)
-carried-out (planned.the-variants.Unrooted s) M = let P : Plan floats = record { root = []; from = s .from; end = s .end } in (counted (visited (M .lent) (range P)), walked P M)
+abbrev pub carried-out : code-plan.Planned → Machine floats → Answer floats × Machine floats
+carried-out (code-plan.the-variants.Refused r) M = (refused r, M)
+carried-out (code-plan.the-variants.Walk root s) M =
+    let P : Plan floats = record { root = operands-of root; from = s .from; end = s .end } in
+    (counted (visited (M .lent) (range P)), walked P M)
 
 -- ---- walks
 
@@ -127,14 +148,20 @@ pub record Walkable (s : Span) (adjoints : List Float) (counts children : List �
   pub partial : slot (s .end) ≤ length partials
   pub sound : all-sound counts children s ≡ true
 
+-- a root whose adjoint is there
+abbrev pub Below : root.Root → List Float → Type 0
+Below root.the-variants.None adjoints = Unit {0}
+Below (root.the-variants.At h) adjoints = h .index < length adjoints
+
 -- a plan that can be carried out
-abbrev pub Ready : planned.Planned → List Float → List ℕ → List ℕ → List Float → Type 0
-Ready (planned.the-variants.Refused r) adjoints counts children partials = Unit {0}
-Ready (planned.the-variants.Rooted h s) adjoints counts children partials = (h .index < length adjoints) × Walkable s adjoints counts children partials
-Ready (planned.the-variants.Unrooted s) adjoints counts children partials = Walkable s adjoints counts children partials
+abbrev pub Ready : code-plan.Planned → List Float → List ℕ → List ℕ → List Float → Type 0
+Ready (code-plan.the-variants.Refused r) adjoints counts children partials = Unit {0}
+Ready (code-plan.the-variants.Walk root s) adjoints counts children partials =
+    Below root adjoints × Walkable s adjoints counts children partials
 
 abbrev pub walked-back : Span → List ℕ → List ℕ → List Float → List Float → List Float
-walked-back s counts children partials adjoints = walk (s .from) (map (edges-at (edge-arrays counts children partials)) (inside s)) adjoints
+walked-back s counts children partials adjoints =
+    walk (s .from) (map (edges-at (edge-arrays counts children partials)) (inside s)) adjoints
 
 abbrev pub visits : Span → List ℕ → ℕ
 visits s counts = visited {N = floats} (edge-arrays counts [] []) (inside s)

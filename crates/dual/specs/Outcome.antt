@@ -1,4 +1,5 @@
--- What reads, clearing and passes answer, in the machine's terms. None of these calls changes the state, so none hands it back: what it leaves is the state it was given, with the arrays.
+-- What reads, clearing and passes answer, in the machine's terms. None of these calls changes the state, so none hands
+-- it back: what it leaves is the state it was given, with the arrays.
 use mathlib.Core.Path.{_≡_}
 use Rattle.tape.specs.Numbers.{floats}
 use Rattle.tape.specs.Machine.{Machine}
@@ -32,6 +33,9 @@ pass-outcome (passed.the-variants.Refused r) M = (refused r, M)
 -- no two answers, each with what it leaves, say the same. Proved in proofs/OneToOne.antt
 pub record OneToOne : Type 0 where
   pub read-outcome : (x y : read.Read) (M K : Machine floats) → read-outcome x M ≡ read-outcome y K → (x ≡ y) × (M ≡ K)
-  pub liveness-outcome : (x y : liveness.Liveness) (M K : Machine floats) → liveness-outcome x M ≡ liveness-outcome y K → (x ≡ y) × (M ≡ K)
-  pub cleared-outcome : (x y : cleared.Cleared) (M K : Machine floats) → cleared-outcome x M ≡ cleared-outcome y K → (x ≡ y) × (M ≡ K)
-  pub pass-outcome : (x y : passed.Passed) (M K : Machine floats) → pass-outcome x M ≡ pass-outcome y K → (x ≡ y) × (M ≡ K)
+  pub liveness-outcome : (x y : liveness.Liveness) (M K : Machine floats) → liveness-outcome x M ≡ liveness-outcome y K
+      → (x ≡ y) × (M ≡ K)
+  pub cleared-outcome : (x y : cleared.Cleared) (M K : Machine floats) → cleared-outcome x M ≡ cleared-outcome y K
+      → (x ≡ y) × (M ≡ K)
+  pub pass-outcome : (x y : passed.Passed) (M K : Machine floats) → pass-outcome x M ≡ pass-outcome y K
+      → (x ≡ y) × (M ≡ K)

@@ -1,6 +1,7 @@
 // The five reverse passes. Each plans first, which settles every refusal, and then walks.
 use crate::planning::Pass;
 use crate::planning::Planned;
+use crate::planning::Root;
 use tape::Operand;
 use tape::Refusal;
 use tape::Tape;
@@ -11,10 +12,10 @@ ghost use lib.Ieee.{Float};
 ghost use Rattle.tape.specs.Numbers.{floats};
 ghost use Rattle.tape.specs.Machine.{arrays, machine, lent-after, lent-before};
 ghost use Rattle.tape.specs.Handles.{operand};
-ghost use Rattle.tape.specs.Calls.{pass, backward, backward-to-mark, backward-mark-to-start, propagate-to-mark, propagate-mark-to-start};
+ghost use Rattle.tape.specs.Calls.{pass, backward, backward-to-mark, backward-mark-to-start, propagate-to-mark, propagate-mark-to-start, seeded};
 ghost use Rattle.tape.specs.Steps.{step};
 ghost use Rattle.dual.specs.Outcome.{pass-outcome};
-ghost use Rattle.dual.specs.Inner.{pass-of, Ready, carried-out};
+ghost use Rattle.dual.specs.Inner.{pass-of, Below, operands-of, Ready, carried-out};
 
 // What a pass answers: how many edges it visited, or the refusal.
 pub enum Passed {
@@ -49,7 +50,8 @@ pub fn backward(
     )
 }
 
-// Sets the root's adjoint to one and walks from the last node down to the mark, wherever the root lies. Refuses as `backward` does.
+// Sets the root's adjoint to one and walks from the last node down to the mark, wherever the root lies. Refuses as
+// `backward` does.
 pub fn backward_to_mark(
     tape: Tape,
     value: &[f64],
@@ -76,7 +78,8 @@ pub fn backward_to_mark(
     )
 }
 
-// Sets the root's adjoint to one and walks from the mark down to the first node, wherever the root lies. Refuses as `backward` does.
+// Sets the root's adjoint to one and walks from the mark down to the first node, wherever the root lies. Refuses as
+// `backward` does.
 pub fn backward_mark_to_start(
     tape: Tape,
     value: &[f64],
@@ -188,13 +191,23 @@ fn carry_out(
 {
     match planned {
         Planned::Refused(refusal) => Passed::Refused(refusal),
-        Planned::Unrooted(span) => {
+        Planned::Walk(root, span) => {
+            seed(root, adjoint);
             Passed::Visited(crate::walking::walk(span, adjoint, count, child, partial))
         }
-        Planned::Rooted(root, span) => {
-            let at = root.index;
+    }
+}
+
+// The root's adjoint is set to one, and not added to.
+fn seed(root: Root, adjoint: &mut [f64])
+    requires { ⌜ Below root (now adjoint) ⌝ }
+    ensures { λ _. ⌜ now (adjoint .exit) ≡ seeded {N = floats} (operands-of root) (now (adjoint .entry)) ⌝ }
+{
+    match root {
+        Root::None => {}
+        Root::At(handle) => {
+            let at = handle.index;
             adjoint[at] = 1.0;
-            Passed::Visited(crate::walking::walk(span, adjoint, count, child, partial))
         }
     }
 }

@@ -31,7 +31,8 @@ pub enum Liveness {
     Refused(Refusal),
 }
 
-// The value of a number, which is the number, or of the node behind a handle. Refuses 1, and 3 for a handle that is not live.
+// The value of a number, which is the number, or of the node behind a handle. Refuses 1, and 3 for a handle that is not
+// live.
 pub fn value(
     tape: Tape,
     value: &[f64],

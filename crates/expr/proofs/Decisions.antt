@@ -24,6 +24,7 @@ use Rattle.tape.specs.declared.node.Usable.{Usable}
 use Rattle.tape.specs.declared.node.Usable.the-variants as usable
 use Rattle.tape.specs.declared.admission.Admission.the-variants as admission
 use Rattle.tape.specs.declared.tape.Tape.{Tape}
+use Rattle.tape.specs.Machine.{most-nodes, most-edges}
 use Rattle.tape.proofs.Lookups.{below}
 use Rattle.expr.specs.Inner.{Small, Decides, edges-in, usable-operand, both-usable, refusal-in, row-refusal, row-value, row-edges}
 use Rattle.expr.specs.declared.edges.Edges.{Edges}
@@ -33,18 +34,18 @@ use Rattle.expr.specs.declared.recording.Decision.{Decision}
 not-some : {P : Type 0} {r : Refusal} → some r ≡ none → P
 not-some e = let z : _≡_ {A = ℕ} 0 1 = cc in absurd (omega arith)
 
-pub refused-so : (d : Decision) (k : Refusal) (s : Row) (l r : Operand) → (d .admission ≡ admission.Refused k) × (d .edges .count ≤ 2) → Decides d (some k) s l r
+pub refused-so : (d : Decision) (k : Refusal) (s : Row) (l r : Operand) → (d .admission ≡ admission.Refused k) × (d .edges .count ≤ most-edges) → Decides d (some k) s l r
 refused-so d k s l r (a, f) = record { admission = a; value = λ n. not-some n; edges = λ n. not-some n; few = f }
 
-pub usable-refused : (d : Decision) (u : Usable) (k : Refusal) (s : Row) (l r : Operand) → u ≡ usable.Refused k → (d .admission ≡ admission.Refused k) × (d .edges .count ≤ 2) → Decides d (refusal-in u) s l r
+pub usable-refused : (d : Decision) (u : Usable) (k : Refusal) (s : Row) (l r : Operand) → u ≡ usable.Refused k → (d .admission ≡ admission.Refused k) × (d .edges .count ≤ most-edges) → Decides d (refusal-in u) s l r
 usable-refused d u k s l r e a = subst (λ u. Decides d (refusal-in u) s l r) (sym e) (refused-so d k s l r a)
 
-pub usable-granted : (d : Decision) (u : Usable) (v : Float) (es : Edges) (s : Row) (l r : Operand) → u ≡ usable.Live → d ≡ record { admission = admission.Granted; value = v; edges = es } → v ≡ row-value s → edges-in es ≡ row-edges s l r → es .count ≤ 2 → Decides d (refusal-in u) s l r
+pub usable-granted : (d : Decision) (u : Usable) (v : Float) (es : Edges) (s : Row) (l r : Operand) → u ≡ usable.Live → d ≡ record { admission = admission.Granted; value = v; edges = es } → v ≡ row-value s → edges-in es ≡ row-edges s l r → es .count ≤ most-edges → Decides d (refusal-in u) s l r
 usable-granted d u v es s l r e same value edges few =
     subst (λ u. Decides d (refusal-in u) s l r) (sym e)
     (subst (λ d. Decides d none s l r) (sym same) (record { admission = refl; value = λ _. value; edges = λ _. edges; few = few }))
 
-pub small-so : (t : Tape) (serials : List ℕ) (x : Operand) → t .length ≤ 65535 → usable-operand t serials x ≡ usable.Live → Small x
+pub small-so : (t : Tape) (serials : List ℕ) (x : Operand) → t .length ≤ most-nodes → usable-operand t serials x ≡ usable.Live → Small x
 small-so t serials (Number v) h e = tt
 small-so t serials (Node k) h e = let b : k .index < t .length = below (usable-as t serials k) t serials k refl e in omega arith
 
@@ -66,12 +67,12 @@ plain-edge es x v w e = sym (append-nil es) ∙ ap (λ x. es ++ edge (operand x)
 pub node-edge : (es fs : List (Edge floats)) (x : Operand) (h : Handle) (w : Float) → x ≡ Node h → fs ≡ es ++ (record { child = h .index; weight = w } ∷ []) → fs ≡ es ++ edge (operand x) (some w)
 node-edge es fs x h w e f = f ∙ ap (λ x. es ++ edge (operand x) (some w)) (sym e)
 
-pub small-node : (x : Operand) (h : Handle) → x ≡ Node h → Small x → h .index < 65536
+pub small-node : (x : Operand) (h : Handle) → x ≡ Node h → Small x → h .index ≤ most-nodes
 small-node x h e s = subst Small e s
 
 -- ---- the admission first
 
-pub door-refused : (d : Decision) (k : Refusal) (s : Row) (l r : Operand) (a q : Option Refusal) → a ≡ some k → (d .admission ≡ admission.Refused k) × (d .edges .count ≤ 2) → Decides d (first (a ∷ q ∷ [])) s l r
+pub door-refused : (d : Decision) (k : Refusal) (s : Row) (l r : Operand) (a q : Option Refusal) → a ≡ some k → (d .admission ≡ admission.Refused k) × (d .edges .count ≤ most-edges) → Decides d (first (a ∷ q ∷ [])) s l r
 door-refused d k s l r a q e h = subst (λ a. Decides d (first (a ∷ q ∷ [])) s l r) (sym e) (refused-so d k s l r h)
 
 alone : (q : Option Refusal) → q ≡ first (q ∷ [])
@@ -81,9 +82,9 @@ alone (some r) = refl
 pub door-granted : (d : Decision) (s : Row) (l r : Operand) (a q : Option Refusal) → a ≡ none → Decides d q s l r → Decides d (first (a ∷ q ∷ [])) s l r
 door-granted d s l r a q e h = subst (λ a. Decides d (first (a ∷ q ∷ [])) s l r) (sym e) (subst (λ o. Decides d o s l r) (alone q) h)
 
-pub length-small : (t : Tape) (n : Lengths) → Calls·admission caller.Recording n t ≡ none → t .length ≤ 65535
+pub length-small : (t : Tape) (n : Lengths) → Calls·admission caller.Recording n t ≡ none → t .length ≤ most-nodes
 length-small t n e =
     let (small, (_, (_, (_, (_, (_, (below, _))))))) = every (arrays-fit n ++ state-fits (n .value) t) (not-false _ (unhit _ _ e)) in
-    let a : n .value ≤ 65535 = leb-true _ _ small in
+    let a : n .value ≤ most-nodes = leb-true _ _ small in
     let b : t .length ≤ n .value = leb-true _ _ below in
     omega arith

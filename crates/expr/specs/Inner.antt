@@ -1,4 +1,5 @@
--- What the private functions of src/recording.rt promise: the rule as the code goes about it. Only their proofs use it; every public promise speaks of `step`.
+-- What the private functions of src/recording.rt promise: the rule as the code goes about it. Only their proofs use it;
+-- every public promise speaks of `step`.
 use Prim.Native.Nat.{ℕ, _+_, _≤_, _<_}
 use mathlib.Core.Path.{_≡_}
 use mathlib.Core.Bool.{Bool, true, false, cond}
@@ -8,7 +9,7 @@ use lib.Dec.{eqb}
 use lib.ListN.{length, getD}
 use lib.Ieee.{Float, nan}
 use Rattle.tape.specs.Numbers.{floats}
-use Rattle.tape.specs.Machine.{Arrays, Machine, capacity, slot}
+use Rattle.tape.specs.Machine.{Arrays, Machine, capacity, slot, most-nodes, most-edges}
 use Rattle.tape.specs.Handles.{usable-as}
 use Rattle.tape.specs.Handles as Handles
 use Rattle.tape.specs.Operations.{row, known, apply}
@@ -37,7 +38,7 @@ use Rattle.expr.specs.declared.recording.Decision.{Decision}
 -- an index that fits a child's 16 bits
 abbrev pub Small : Operand → Type 0
 Small (operand.Number x) = Unit {0}
-Small (operand.Node h) = h .index < 65536
+Small (operand.Node h) = h .index ≤ most-nodes
 
 abbrev pub edges-in : Edges → List (Edge floats)
 edges-in e = edges-from (e .child) (e .weight) 0 (e .count)
@@ -80,7 +81,8 @@ row-of false s = code.Unknown
 row-of true s = row-by (s .value) (s .left) (s .right)
 
 abbrev pub row-for : List Float → ℕ → Operand → Operand → Supplied → Row
-row-for values op left right g = row-of (known op) (apply op (operand-value-in values left) (operand-value-in values right) (given g))
+row-for values op left right g =
+    row-of (known op) (apply op (operand-value-in values left) (operand-value-in values right) (given g))
 
 -- ---- the node that a row makes
 
@@ -107,10 +109,11 @@ pub record Decides (x : Decision) (o : Option Refusal) (s : Row) (left right : O
   pub admission : x .admission ≡ admitted o
   pub value : o ≡ none → x .value ≡ row-value s
   pub edges : o ≡ none → edges-in (x .edges) ≡ row-edges s left right
-  pub few : x .edges .count ≤ 2
+  pub few : x .edges .count ≤ most-edges
 
 abbrev pub recording-refusal : Tape → Lengths → List ℕ → Row → Operand → Operand → Option Refusal
-recording-refusal t n serials s left right = first (admission caller.Recording n t ∷ row-refusal s (usable-operand t serials left) (usable-operand t serials right) ∷ [])
+recording-refusal t n serials s left right =
+    first (admission caller.Recording n t ∷ row-refusal s (usable-operand t serials left) (usable-operand t serials right) ∷ [])
 
 -- ---- room, and the node's place
 
@@ -132,5 +135,5 @@ pub record Room (i : ℕ) (A : Arrays floats) : Type 0 where
   pub adjoint : i < length (A .adjoint)
   pub serial : i < length (A .serial)
   pub count : i < length (A .count)
-  pub child : slot i + 2 ≤ length (A .child)
-  pub partial : slot i + 2 ≤ length (A .partial)
+  pub child : slot i + most-edges ≤ length (A .child)
+  pub partial : slot i + most-edges ≤ length (A .partial)

@@ -1,6 +1,7 @@
 // Recording: operation numbers and operands in place of the Rust's typed expressions, each operation flattened at once.
 //
-// `record` takes any operation by its number, for which `operations` has names; `new_leaf` and `put_on_tape` record leaves.
+// `record` takes any operation by its number, for which `operations` has names; `new_leaf` and `put_on_tape` record
+// leaves.
 mod edges;
 pub mod operations;
 pub mod operators;

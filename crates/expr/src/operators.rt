@@ -1,4 +1,5 @@
-// The two recordings that the Rust has as methods of their own: both record a leaf, or answer the value alone while the tape is inactive, and refuse as `record` does.
+// The two recordings that the Rust has as methods of their own: both record a leaf, or answer the value alone while the
+// tape is inactive, and refuse as `record` does.
 use crate::operations::LEAF;
 use crate::operations::Supplied;
 use crate::recording::Recorded;

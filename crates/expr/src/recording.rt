@@ -17,7 +17,7 @@ ghost use mathlib.Core.Bool.{true};
 ghost use lib.Ieee.{nan};
 ghost use lib.ListN.{getD};
 ghost use Rattle.tape.specs.Numbers.{floats};
-ghost use Rattle.tape.specs.Machine.{arrays, machine, lent-after, lent-before};
+ghost use Rattle.tape.specs.Machine.{arrays, machine, lent-after, lent-before, most-nodes, most-edges};
 ghost use Rattle.tape.specs.Handles.{operand};
 ghost use Rattle.tape.specs.Calls.{operate, with-node};
 ghost use Rattle.tape.specs.Admission.{fits};
@@ -26,14 +26,16 @@ ghost use Rattle.tape.specs.Steps.{step};
 ghost use Rattle.expr.specs.Outcome.{given, outcome};
 ghost use Rattle.expr.specs.Inner.{Small, Room, Decides, recording-refusal, row-for, usable-operand, both-usable, operand-value-in, row-refusal, refusal-in, edges-in, appended, recorded-if-room};
 
-// What a recording answers: a value and its node's handle, or a value alone where the tape is inactive, with the state after it; or the refusal and the state as it was.
+// What a recording answers: a value and its node's handle, or a value alone where the tape is inactive, with the state
+// after it; or the refusal and the state as it was.
 pub enum Recorded {
     Node(f64, Handle, Tape),
     Detached(f64, Tape),
     Refused(Refusal, Tape),
 }
 
-// Records operation op on its operands. Refuses what does not fit (1), an unknown operation (2), an operand that is used and not live (3) and, while active, a full tape (5) or spent serials (6).
+// Records operation op on its operands. Refuses what does not fit (1), an unknown operation (2), an operand that is
+// used and not live (3) and, while active, a full tape (5) or spent serials (6).
 pub fn record(
     tape: Tape,
     value: &mut [f64],
@@ -76,7 +78,8 @@ pub fn record(
 // The last serial is never given out, so that the next one fits.
 const LAST_SERIAL: u64 = 18_446_744_073_709_551_615;
 
-// What the operation and its operands come to, before the tape is asked for room: granted, with the node's value and edges beside it, or refused.
+// What the operation and its operands come to, before the tape is asked for room: granted, with the node's value and
+// edges beside it, or refused.
 pub(crate) struct Decision {
     pub admission: Admission,
     pub value: f64,
@@ -84,7 +87,7 @@ pub(crate) struct Decision {
 }
 
 fn refused(refusal: Refusal) -> Decision
-    ensures { λ d. ⌜ (d .admission ≡ Admission.Refused refusal) × (d .edges .count ≤ 2) ⌝ }
+    ensures { λ d. ⌜ (d .admission ≡ Admission.Refused refusal) × (d .edges .count ≤ most-edges) ⌝ }
 {
     let edges = Edges::none();
     Decision {
@@ -171,7 +174,7 @@ fn value_at(i: usize, value: &[f64]) -> f64
 
 // The node that a row makes of its operands.
 fn make(tape: Tape, serial: &[u64], row: Row, left: Operand, right: Operand) -> Decision
-    requires { ⌜ tape .length ≤ 65535 ⌝ }
+    requires { ⌜ tape .length ≤ most-nodes ⌝ }
     ensures { λ x. ⌜ Decides x (row-refusal row (usable-operand tape (now (serial .entry)) left) (usable-operand tape (now (serial .entry)) right)) row left right ⌝ }
 {
     match row {
@@ -225,7 +228,7 @@ fn record_if_room(
     v: f64,
     edges: Edges,
 ) -> Recorded
-    requires { ⌜ (edges .count ≤ 2) × (fits true (machine tape (arrays {N = floats} (now value) (now adjoint) (now serial) (now count) (now child) (now partial))) ≡ true) ⌝ }
+    requires { ⌜ (edges .count ≤ most-edges) × (fits true (machine tape (arrays {N = floats} (now value) (now adjoint) (now serial) (now count) (now child) (now partial))) ≡ true) ⌝ }
     ensures { λ x. ⌜
         outcome x (lent-after value adjoint serial count child partial)
         ≡ recorded-if-room (machine tape (lent-before value adjoint serial count child partial)) v (edges-in edges) ⌝ }
@@ -263,7 +266,7 @@ fn append(
     v: f64,
     edges: Edges,
 ) -> Recorded
-    requires { ⌜ (edges .count ≤ 2) × (tape .next < last-serial) × Room (tape .length) (arrays {N = floats} (now value) (now adjoint) (now serial) (now count) (now child) (now partial)) ⌝ }
+    requires { ⌜ (edges .count ≤ most-edges) × (tape .next < last-serial) × Room (tape .length) (arrays {N = floats} (now value) (now adjoint) (now serial) (now count) (now child) (now partial)) ⌝ }
     ensures { λ x. ⌜
         outcome x (lent-after value adjoint serial count child partial)
         ≡ appended (machine tape (lent-before value adjoint serial count child partial)) v (edges-in edges) ⌝ }
@@ -300,7 +303,7 @@ fn write(
     v: f64,
     edges: Edges,
 )
-    requires { ⌜ (edges .count ≤ 2) × Room (handle .index) (arrays {N = floats} (now value) (now adjoint) (now serial) (now count) (now child) (now partial)) ⌝ }
+    requires { ⌜ (edges .count ≤ most-edges) × Room (handle .index) (arrays {N = floats} (now value) (now adjoint) (now serial) (now count) (now child) (now partial)) ⌝ }
     ensures { λ _. ⌜ arrays {N = floats} (now (value .exit)) (now (adjoint .exit)) (now (serial .exit)) (now (count .exit)) (now (child .exit)) (now (partial .exit))
         ≡ with-node handle (lent-before value adjoint serial count child partial) v (edges-in edges) ⌝ }
 {

@@ -1,4 +1,5 @@
--- Two structs that hold the same number are the same struct: each map of specs/Number.antt has an inverse, by its fields.
+-- Two structs that hold the same number are the same struct: each map of specs/Number.antt has an inverse, by its
+-- fields.
 use mathlib.Core.Path.{ap}
 use Rattle.forward.specs.Forward.{Fwd}
 use Rattle.forward.specs.Number.{NumbersOneToOne}

@@ -148,7 +148,7 @@ fn weight(intervals: usize) -> f64 {
 fn interval(sum: Made, seen: Made, t: f64) -> Part {
     let total = sum.x;
     let cell = seen.x;
-    Part::Interval(total, cell, t, nearest_cells(t, seen.worth))
+    Part::Interval(total, cell, t, nearest_cells(t, seen.number))
 }
 
 fn record_part(
@@ -291,7 +291,7 @@ impl Turned {
     fn with(mut self, misfit: Made) -> Turned {
         let tape = misfit.tape;
         self.tape = tape;
-        self.misfit = self.misfit + misfit.worth;
+        self.misfit = self.misfit + misfit.number;
         self.refusal = misfit.refusal;
         self
     }

@@ -1,4 +1,5 @@
--- Each method answers what its rule gives, so the laws of the rules are laws of the methods: once over the order n and a one-to-one map to the numbers of that order.
+-- Each method answers what its rule gives, so the laws of the rules are laws of the methods: once over the order n and
+-- a one-to-one map to the numbers of that order.
 use Prim.Native.Nat.{ℕ}
 use mathlib.Core.Path.{_≡_, sym, ap, _∙_}
 use lib.Ieee.{Float}

@@ -14,8 +14,19 @@ struct Progress {
     pending: usize,
 }
 
-// Replays the file, which the list is named after.
-pub(crate) fn replay(list: &[u8], subject: Subject, file: i32) {
+// The end of a file's name, which a list's name lacks.
+const ENDING: usize = 4;
+
+// Replays the list in the file `NAME.txt`.
+pub(crate) fn replay(path: &[u8], subject: Subject) {
+    if path.len() < ENDING {
+        return;
+    }
+    let name = path.len() - ENDING;
+    replay_file(&path[0..name], subject, os::open_read(path));
+}
+
+fn replay_file(list: &[u8], subject: Subject, file: i32) {
     if file < 0 {
         report::unreadable(list);
         return;

@@ -3,7 +3,6 @@ use Prim.Native.Nat.{ℕ}
 use native.Mathlib.Omega.{arith}
 use mathlib.Core.Path.{_≡_, refl, sym, ap, _∙_}
 use mathlib.Core.Bool.{true}
-use mathlib.Core.List.{[], _∷_}
 use mathlib.Core.Option.{Option, none, some}
 use Rattle.tape.specs.Numbers.{Numbers}
 use Rattle.tape.specs.Machine.{Machine}
@@ -12,10 +11,10 @@ use Rattle.tape.specs.Calls.{Call, carried}
 use Rattle.tape.specs.Refusals.{refusal-of}
 use Rattle.tape.specs.Steps.{unless, step}
 use Rattle.tape.specs.declared.errors.Refusal.{Refusal}
-use Rattle.tape.specs.declared.errors.Refusal.the-variants.{Misshapen, UnknownOperation, NotLive, Detached, Full, SerialsSpent, UnsoundEdge, ListingTooLong}
 use Rattle.tape.proofs.OneToOne.{by-number, at-refusal, one-to-one}
 use Rattle.tape.proofs.Passes.{carried-number}
-use Rattle.revolutions.specs.Answered.{among, Demand1}
+use Rattle.tape.proofs.Steps.{by-table}
+use Rattle.revolutions.specs.Answered.{among, listed, Demand1}
 
 stepped : {N : Numbers} (c : Call N) (M : Machine N) (o : Option Refusal) → refusal-of c M ≡ o → step c M ≡ unless o M (carried c M)
 unfolding step
@@ -30,20 +29,22 @@ then : {N : Numbers} (c : Call N) (M : Machine N) (o : Option Refusal) (r : Refu
 then c M none r e = absurd (not-nought r (sym e ∙ carried-number c M))
 then c M (some q) r e = ap some (one-to-one .numbers q r e)
 
-listed : (r : Refusal) → among (number r) (1 ∷ 2 ∷ 3 ∷ 4 ∷ 5 ∷ 6 ∷ 7 ∷ 8 ∷ []) ≡ true
-listed Misshapen = refl
-listed UnknownOperation = refl
-listed NotLive = refl
-listed Detached = refl
-listed Full = refl
-listed SerialsSpent = refl
-listed UnsoundEdge = refl
-listed ListingTooLong = refl
+listed-so : {N : Numbers} (c : Call N) (M : Machine N) (r : Refusal) → refusal-of c M ≡ some r → among (number r) listed ≡ true
+listed-so c M = by-table (λ r. among (number r) listed ≡ true) c M (record {
+  misshapen = refl;
+  unknown = refl;
+  not-live = λ h. refl;
+  detached = refl;
+  full = refl;
+  spent = refl;
+  unsound = λ _ _ _. refl;
+  too-long = refl;
+})
 
 pub demand-1 : Demand1
 demand-1 = record {
   refused = λ c M r e. stepped c M (some r) e;
   answered = λ c M e. let carries = stepped c M none e in (carries, ap (λ x. x .0 .number) carries ∙ carried-number c M);
   exactly-then = λ c M r e. then c M (refusal-of c M) r (sym (ap (λ x. x .0 .number) (stepped c M (refusal-of c M) refl)) ∙ e);
-  listed = listed;
+  listed = listed-so;
 }

@@ -1,4 +1,5 @@
--- A session for a resolved one: handles are chosen by the serials that a machine will give out. It resolves to that one.
+-- A session for a resolved one: handles are chosen by the serials that a machine will give out. It resolves to that
+-- one.
 use Prim.Native.Nat.{ℕ, suc, _+_, _-_}
 use native.Mathlib.Nat.{add-sub-cancel-left}
 use native.Mathlib.Omega.{arith}

@@ -1,4 +1,5 @@
--- What a resolved session has to be for its calls not to be refused, with no machine in it but the one at the start, and that neighbours may change places in it.
+-- What a resolved session has to be for its calls not to be refused, with no machine in it but the one at the start,
+-- and that neighbours may change places in it.
 use Prim.Native.Nat.{ℕ, suc, _+_, _≤_, _<_}
 use native.Mathlib.Omega.{arith}
 use mathlib.Core.Path.{_≡_}

@@ -9,7 +9,7 @@ use borrow.Author.Tests.{eqb-false}
 use lib.ListN.{length, getD, drop, replicate, length-set, length-append, length-replicate, length-drop}
 use lib.Seq.{getD-set-same, getD-set-other, length-sets}
 use Rattle.tape.specs.Numbers.{Numbers}
-use Rattle.tape.specs.Machine.{Arrays, Machine, machine, capacity, slot}
+use Rattle.tape.specs.Machine.{Arrays, Machine, machine, capacity, slot, most-nodes}
 use Rattle.tape.specs.Handles.{Operand, plain, node, operand-value}
 use Rattle.tape.specs.Operations.{Given, apply}
 use Rattle.tape.specs.Walk.{Edge, edges-at}
@@ -62,7 +62,8 @@ length-cleared n x s h = simp (length-append, length-replicate, length-drop) (om
 
 -- ---- a machine in a session
 
--- On the lent arrays A: behind a model of m nodes, with serials from first on, stand j own nodes, with serials from k on.
+-- On the lent arrays A: behind a model of m nodes, with serials from first on, stand j own nodes, with serials from k
+-- on.
 -- While the model is recorded, its nodes are own nodes behind no model
 pub record Counted {N : Numbers} (A : Arrays N) (m first k j : ℕ) (L : Machine N) : Type 0 where
   pub alike : Alike A (L .lent)
@@ -88,7 +89,7 @@ onward P c L a is so = rw (a .carries) (so (rw (a .carries) at (sound-kept L (st
 -- a start leaves no node
 pub started : {N : Numbers} (M : Machine N) → Accepted (move start) M (step (move start) M) → Stands (M .lent) 0 (M .state .next) (M .state .next) 0 (step (move start) M .1)
 started M a =
-    let f = state-fit 65535 (M .state) (shape (a .passed)) in
+    let f = state-fit most-nodes (M .state) (shape (a .passed)) in
     rw (a .carries) (record { counted = omega arith; active = refl; models = λ i h. absurd (omega arith); owns = λ i h. absurd (omega arith); sound = λ i h. absurd (omega arith) })
 
 module _ {N : Numbers} {A : Arrays N} {m first k j : ℕ} {L : Machine N} (s : Stands A m first k j L) where

@@ -1,4 +1,5 @@
--- Demand 3: the session's adjoints are those of its revolutions one by one (`by-turns`), which on lists are those of all at once; and all at once is the long tape.
+-- Demand 3: the session's adjoints are those of its revolutions one by one (`by-turns`), which on lists are those of
+-- all at once; and all at once is the long tape.
 use Prim.Native.Nat.{ℕ, _+_, _-_, _≤_}
 use native.Mathlib.Omega.{arith}
 use mathlib.Core.Path.{_≡_, refl, sym, ap, _∙_}

@@ -1,4 +1,5 @@
--- Either order of two neighbours runs: the one, resolved, fits, so does the other, and one that fits has a session that runs.
+-- Either order of two neighbours runs: the one, resolved, fits, so does the other, and one that fits has a session that
+-- runs.
 use mathlib.Core.Path.{_≡_}
 use mathlib.Core.List.{List}
 use Rattle.tape.specs.Numbers.{Numbers}

@@ -9,7 +9,7 @@ use mathlib.Core.Option.{none}
 use borrow.Author.Tests.{ne-eqb}
 use lib.ListN.{length, getD, length-map}
 use Rattle.tape.specs.Numbers.{Numbers}
-use Rattle.tape.specs.Machine.{Arrays, Machine, machine, capacity}
+use Rattle.tape.specs.Machine.{Arrays, Machine, machine, capacity, most-nodes}
 use Rattle.tape.specs.Handles.{Operand, live, handles, any-plain}
 use Rattle.tape.specs.Operations.{one-sided}
 use Rattle.tape.specs.Calls.{Call, Move, move, start, set-mark, rewind-to-mark, operate, clear, Pass, pass, backward-to-mark, propagate-mark-to-start, plan}
@@ -48,7 +48,7 @@ moves-so c L shape = passes (move c) L (rw (mover-unlent c, shape))
 module _ {N : Numbers} {A : Arrays N} {m first k j : ℕ} {L : Machine N} {t : Tape} (f : Fit (machine t A)) (s : Stands A m first k j L) where
   -- on such a machine no move is refused
   moves : (c : Move) → Accepted (move c) L (step (move c) L)
-  moves c = let g = stands-fit s f in moves-so c L (state-fit-so 65535 (L .state) (omega arith))
+  moves c = let g = stands-fit s f in moves-so c L (state-fit-so most-nodes (L .state) (omega arith))
 
   -- a call that is lent the arrays is not refused for its shape
   lent-fits : fits true L ≡ true

@@ -1,4 +1,5 @@
--- Two neighbours among the revolutions trade places. Both sessions' adjoints are those of their revolutions one by one, and on lists the two may be swapped.
+-- Two neighbours among the revolutions trade places. Both sessions' adjoints are those of their revolutions one by one,
+-- and on lists the two may be swapped.
 use mathlib.Core.Path.{_≡_, sym, ap, _∙_}
 use mathlib.Core.List.{List, [], map, map-append}
 use lib.ListN.{length, length-map}

@@ -1,4 +1,5 @@
--- A session, call by call: each revolution folds its part into the model's adjoints, and the last pass walks the model. Rests on `recorded`, and on the lists that each other call leaves.
+-- A session, call by call: each revolution folds its part into the model's adjoints, and the last pass walks the model.
+-- Rests on `recorded`, and on the lists that each other call leaves.
 use Prim.Native.Nat.{ℕ, suc, _+_, _-_, _≤_}
 use native.Mathlib.Nat.{sub-zero}
 use native.Mathlib.Omega.{arith}

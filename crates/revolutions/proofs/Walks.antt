@@ -1,4 +1,5 @@
--- Walks over lists: what they keep, and walks beside one another. Each is told of one edge first, and then by induction on the edges and on the nodes.
+-- Walks over lists: what they keep, and walks beside one another. Each is told of one edge first, and then by induction
+-- on the edges and on the nodes.
 use Prim.Native.Nat.{ℕ, zero, suc, _+_, _-_, _≤_, _<_}
 use native.Mathlib.Nat.{zero-add, suc-add, le-refl}
 use native.Mathlib.Decide.{decLt}

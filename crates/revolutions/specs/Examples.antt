@@ -1,5 +1,7 @@
--- What demand 3 says of one session of three revolutions, in bits, and what would not meet it. Proved in proofs/Examples.antt, by computation.
--- The revolutions pass 3, 2^53 and -2^53 back to one node of the model, so that the order of the three sums shows: (0 + 3) + 2^53 is 2^53 + 4 in floats, and less 2^53 it is 4.
+-- What demand 3 says of one session of three revolutions, in bits, and what would not meet it. Proved in
+-- proofs/Examples.antt, by computation.
+-- The revolutions pass 3, 2^53 and -2^53 back to one node of the model, so that the order of the three sums shows: (0 +
+-- 3) + 2^53 is 2^53 + 4 in floats, and less 2^53 it is 4.
 use Prim.Native.Nat.{ℕ, _+_, _^_}
 use mathlib.Core.Path.{_≡_}
 use mathlib.Core.List.{List, [], _∷_, _++_, map, reverse}
@@ -17,7 +19,8 @@ use Rattle.revolutions.specs.Trading.{Apart, with-both}
 -- ---- the session
 
 abbrev pub operation : ℕ → Operand floats → Operand floats → Operation floats
-operation op left right = record { operation = op; left = left; right = right; supplied = given (float 0) (float 0) (float 0) }
+operation op left right =
+    record { operation = op; left = left; right = right; supplied = given (float 0) (float 0) (float 0) }
 
 -- where an operation does not use its right operand: a handle that is not live
 abbrev pub unused : Operand floats
@@ -27,7 +30,8 @@ unused = node (handle 9 9)
 abbrev pub model : List (Operation floats)
 model = operation 0 (plain (float 3)) unused ∷ operation 3 (node-at 0) (node-at 0) ∷ []
 
--- On node i of the model: its value put on the tape again; a value of 5 with supplied partial w; that plus 1, which is the root; and past the root its product with the first. The serials of the four nodes begin at k
+-- On node i of the model: its value put on the tape again; a value of 5 with supplied partial w; that plus 1, which is
+-- the root; and past the root its product with the first. The serials of the four nodes begin at k
 abbrev pub revolution : ℕ → Float → ℕ → Revolution floats
 revolution i w k = record {
   operations = operation 0 (node-at i) unused
@@ -46,11 +50,13 @@ abbrev pub high : Float
 high = float (2 ^ 53)
 
 abbrev pub three : Session floats
-three = record { model = model; revolutions = revolution 1 (float 3) 3 ∷ revolution 1 high 7 ∷ revolution 1 (neg high) 11 ∷ [] }
+three =
+    record { model = model; revolutions = revolution 1 (float 3) 3 ∷ revolution 1 high 7 ∷ revolution 1 (neg high) 11 ∷ [] }
 
 -- with reads between: x * x's adjoint after the first revolution, and at the end its value and a listing
 abbrev pub three-calls : List (Call floats)
-three-calls = take 11 (calls three) ++ (adjoint-of (node-at 1) ∷ drop 11 (calls three)) ++ (value-of (node-at 1) ∷ list 1000 ∷ [])
+three-calls =
+    take 11 (calls three) ++ (adjoint-of (node-at 1) ∷ drop 11 (calls three)) ++ (value-of (node-at 1) ∷ list 1000 ∷ [])
 
 -- six nodes' room, all sevens
 abbrev pub before : Machine floats
@@ -58,7 +64,8 @@ before = fresh (sevens 6)
 
 -- the last two revolutions in the other order
 abbrev pub swapped : Session floats
-swapped = record { model = model; revolutions = revolution 1 (float 3) 3 ∷ revolution 1 (neg high) 7 ∷ revolution 1 high 11 ∷ [] }
+swapped =
+    record { model = model; revolutions = revolution 1 (float 3) 3 ∷ revolution 1 (neg high) 7 ∷ revolution 1 high 11 ∷ [] }
 
 -- ---- rules that are not the long tape's
 
@@ -67,11 +74,12 @@ first-only resolved = long-tape (record { model = resolved .model; revolutions =
 
 -- the revolutions in the order in which they were recorded
 abbrev pub in-recording-order : ResolvedSession floats → List Float
-in-recording-order resolved = long-tape (record { model = resolved .model; revolutions = reverse (resolved .revolutions) })
+in-recording-order resolved =
+    long-tape (record { model = resolved .model; revolutions = reverse (resolved .revolutions) })
 
 -- adjoints that no walk changes
 abbrev pub idle : ResolvedSession floats → List Float
-idle resolve-operand = replicate 2 (float 0)
+idle resolved = replicate 2 (float 0)
 
 -- ---- what is proved
 

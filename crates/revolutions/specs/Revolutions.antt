@@ -1,4 +1,5 @@
--- The sum over revolutions, demand 3. Read downwards: a session of calls, what its calls mean, the one long tape that they mean, and what is proved. Over any numbers; no law of them is assumed.
+-- The sum over revolutions, demand 3. Read downwards: a session of calls, what its calls mean, the one long tape that
+-- they mean, and what is proved. Over any numbers; no law of them is assumed.
 use Prim.Native.Nat.{ℕ, _+_, _-_, _≤_}
 use mathlib.Core.Path.{_≡_}
 use mathlib.Core.Bool.{Bool, true, false, cond}
@@ -40,11 +41,13 @@ recordings os = map (λ o. operate (o .operation) (o .left) (o .right) (o .suppl
 -- each revolution: record it, pass its gradients back to the mark, rewind
 abbrev pub revolution-calls : {N : Numbers} → List (Revolution N) → List (Call N)
 revolution-calls [] = []
-revolution-calls (r ∷ rs) = recordings (r .operations) ++ (pass (backward-to-mark (node (r .root))) ∷ move rewind-to-mark ∷ revolution-calls rs)
+revolution-calls (r ∷ rs) =
+    recordings (r .operations) ++ (pass (backward-to-mark (node (r .root))) ∷ move rewind-to-mark ∷ revolution-calls rs)
 
 -- start, record the model, set the mark, clear; the revolutions; at last the walk from the mark to the start
 abbrev pub calls : {N : Numbers} → Session N → List (Call N)
-calls s = move start ∷ recordings (s .model) ++ (move set-mark ∷ clear ∷ revolution-calls (s .revolutions) ++ (pass propagate-mark-to-start ∷ []))
+calls s =
+    move start ∷ recordings (s .model) ++ (move set-mark ∷ clear ∷ revolution-calls (s .revolutions) ++ (pass propagate-mark-to-start ∷ []))
 
 -- reads and listings, which may stand anywhere between
 abbrev pub reads : {N : Numbers} → Call N → Bool
@@ -102,7 +105,8 @@ pub record ResolvedSession (N : Numbers) : Type 0 where
 
 -- the nodes of the model are its own: no model stands before it
 abbrev pub resolve : {N : Numbers} → Session N → ResolvedSession N
-resolve s = record { model = map (resolve-operation 0) (s .model); revolutions = map (resolve-revolution (length (s .model))) (s .revolutions) }
+resolve s =
+    record { model = map (resolve-operation 0) (s .model); revolutions = map (resolve-revolution (length (s .model))) (s .revolutions) }
 
 -- ---- the long tape: nothing in it is read off a machine
 
@@ -127,13 +131,15 @@ edge b (number x) (some p) = []
 abbrev pub nodes : {N : Numbers} → ℕ → List (N .Number) → List (N .Number) → List (ResolvedOperation N) → List (Node N)
 nodes b models owns [] = []
 nodes b models owns (d ∷ ds) =
-    let s = apply (d .operation) (operand-value models owns (d .left)) (operand-value models owns (d .right)) (d .supplied) in
+    let s =
+    apply (d .operation) (operand-value models owns (d .left)) (operand-value models owns (d .right)) (d .supplied) in
     record { value = s .value; edges = edge b (d .left) (s .left) ++ edge b (d .right) (s .right) } ∷ nodes b models (owns ++ (s .value ∷ [])) ds
 
 -- behind a model of these values: the revolutions, last to first
 abbrev pub behind : {N : Numbers} → List (N .Number) → List (ResolvedRevolution N) → List (Node N)
 behind models [] = []
-behind models (t ∷ ts) = let later = behind models ts in later ++ nodes (length models + length later) models [] (t .operations)
+behind models (t ∷ ts) =
+    let later = behind models ts in later ++ nodes (length models + length later) models [] (t .operations)
 
 -- their adjoints: all roots one, everything else zero
 abbrev pub seeds : {N : Numbers} → List (ResolvedRevolution N) → List (N .Number)
@@ -154,7 +160,8 @@ abbrev pub AtOrPast : {N : Numbers} → ℕ → List (Revolution N) → Type 0
 AtOrPast mark [] = Unit {0}
 AtOrPast mark (r ∷ rs) = (mark ≤ r .root .index) × AtOrPast mark rs
 
--- These calls are the session's, but for reads and listings; on this machine none is refused; each root stands at or past the mark.
+-- These calls are the session's, but for reads and listings; on this machine none is refused; each root stands at or
+-- past the mark.
 -- Nothing else is asked: not of shapes, room or where children stand
 pub record RunsAs {N : Numbers} (s : Session N) (cs : List (Call N)) (M : Machine N) : Type 0 where
   pub session : without-reads cs ≡ calls s
@@ -165,6 +172,8 @@ pub record RunsAs {N : Numbers} (s : Session N) (cs : List (Call N)) (M : Machin
 abbrev pub model-adjoints : {N : Numbers} → Session N → List (Call N) → Machine N → List (N .Number)
 model-adjoints s cs M = take (length (s .model)) (after cs M .lent .adjoint)
 
--- On any machine, with any lent arrays of any capacity: every model adjoint is that of the long tape, bit for bit. Proved in proofs/Sum.antt
+-- On any machine, with any lent arrays of any capacity: every model adjoint is that of the long tape, bit for bit.
+-- Proved in proofs/Sum.antt
 pub record Demand3 : Type 1 where
-  pub sum-over-revolutions : {N : Numbers} (s : Session N) (cs : List (Call N)) (M : Machine N) → RunsAs s cs M → model-adjoints s cs M ≡ long-tape (resolve s)
+  pub sum-over-revolutions : {N : Numbers} (s : Session N) (cs : List (Call N)) (M : Machine N) → RunsAs s cs M
+      → model-adjoints s cs M ≡ long-tape (resolve s)

@@ -10,7 +10,7 @@ use Rattle.tape.specs.declared.node.Handle.{Handle}
 use Rattle.tape.specs.declared.node.Usable.{Usable}
 use Rattle.tape.specs.declared.node.Usable.the-variants.{Live, Refused}
 use Rattle.tape.specs.declared.tape.Tape.{Tape}
-use Rattle.tape.proofs.Steps.{lives-told}
+use Rattle.tape.proofs.Steps.{lives-parts}
 
 by-answer : (b : Bool) (r : Refusal) → cond b Live (Refused r) ≡ Live → b ≡ true
 by-answer true r e = refl
@@ -20,4 +20,4 @@ pub alive : (x : Usable) (t : Tape) (serials : List ℕ) (h : Handle) → x ≡ 
 alive x t serials h e l = by-answer (lives (t .length) serials h) _ (sym e ∙ l)
 
 pub below : (x : Usable) (t : Tape) (serials : List ℕ) (h : Handle) → x ≡ usable-as t serials h → x ≡ Live → h .index < t .length
-below x t serials h e l = lives-told (t .length) serials h (alive x t serials h e l) .below
+below x t serials h e l = lives-parts (t .length) serials h (alive x t serials h e l) .below

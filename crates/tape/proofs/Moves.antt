@@ -18,11 +18,11 @@ by-row : (o : Option Refusal) (t u : Tape) (A : Arrays floats) → outcome (move
 by-row none t u A = refl
 by-row (some r) t u A = refl
 
-pub move-told : (m : Move) (t : Tape) (x : Moved) → x ≡ moved-by (admitted (admission (mover m) no-arrays t)) t (moved m t) → (A : Arrays floats) → outcome x A ≡ step (move m) (machine t A)
+pub move-steps : (m : Move) (t : Tape) (x : Moved) → x ≡ moved-by (admitted (admission (mover m) no-arrays t)) t (moved m t) → (A : Arrays floats) → outcome x A ≡ step (move m) (machine t A)
 unfolding step
-move-told start t x e A = ap (λ y. outcome y A) e ∙ by-row (admission (mover start) no-arrays t) t (moved start t) A
-move-told stop t x e A = ap (λ y. outcome y A) e ∙ by-row (admission (mover stop) no-arrays t) t (moved stop t) A
-move-told set-mark t x e A = ap (λ y. outcome y A) e ∙ by-row (admission (mover set-mark) no-arrays t) t (moved set-mark t) A
-move-told reset-mark t x e A = ap (λ y. outcome y A) e ∙ by-row (admission (mover reset-mark) no-arrays t) t (moved reset-mark t) A
-move-told rewind-to-mark t x e A = ap (λ y. outcome y A) e ∙ by-row (admission (mover rewind-to-mark) no-arrays t) t (moved rewind-to-mark t) A
-move-told rewind-to-init t x e A = ap (λ y. outcome y A) e ∙ by-row (admission (mover rewind-to-init) no-arrays t) t (moved rewind-to-init t) A
+move-steps start t x e A = ap (λ y. outcome y A) e ∙ by-row (admission (mover start) no-arrays t) t (moved start t) A
+move-steps stop t x e A = ap (λ y. outcome y A) e ∙ by-row (admission (mover stop) no-arrays t) t (moved stop t) A
+move-steps set-mark t x e A = ap (λ y. outcome y A) e ∙ by-row (admission (mover set-mark) no-arrays t) t (moved set-mark t) A
+move-steps reset-mark t x e A = ap (λ y. outcome y A) e ∙ by-row (admission (mover reset-mark) no-arrays t) t (moved reset-mark t) A
+move-steps rewind-to-mark t x e A = ap (λ y. outcome y A) e ∙ by-row (admission (mover rewind-to-mark) no-arrays t) t (moved rewind-to-mark t) A
+move-steps rewind-to-init t x e A = ap (λ y. outcome y A) e ∙ by-row (admission (mover rewind-to-init) no-arrays t) t (moved rewind-to-init t) A

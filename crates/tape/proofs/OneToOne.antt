@@ -8,20 +8,23 @@ use mathlib.Core.List.{List, [], _∷_}
 use lib.Dec.{eqb}
 use Rattle.tape.specs.Numbers.{floats}
 use Rattle.tape.specs.Machine.{Arrays}
-use Rattle.tape.specs.Answers.{number, listed, outcome, OneToOne}
+use Rattle.tape.specs.Answers.{number, outcome, OneToOne}
 use Rattle.tape.specs.declared.errors.Refusal.{Refusal}
 use Rattle.tape.specs.declared.errors.Refusal.the-variants.{Misshapen, UnknownOperation, NotLive, Detached, Full, SerialsSpent, UnsoundEdge, ListingTooLong}
 use Rattle.tape.specs.declared.tape.Moved.{Moved}
 use Rattle.tape.specs.declared.tape.Moved.the-variants.{Done, Refused}
 use Rattle.tape.specs.declared.tape.Tape.{Tape}
 
+abbrev every-refusal : List Refusal
+every-refusal = Misshapen ∷ UnknownOperation ∷ NotLive ∷ Detached ∷ Full ∷ SerialsSpent ∷ UnsoundEdge ∷ ListingTooLong ∷ []
+
 abbrev among : {A : Type 0} → List Refusal → A → (Refusal → A) → ℕ → A
 among [] x f k = x
 among (r ∷ rs) x f k = cond (eqb (number r) k) (f r) (among rs x f k)
 
--- f of the listed refusal that has the number, and x where none has
+-- f of the refusal that has the number, and x where none has
 abbrev pub by-number : {A : Type 0} → A → (Refusal → A) → ℕ → A
-by-number x f k = among listed x f k
+by-number x f k = among every-refusal x f k
 
 pub at-refusal : {A : Type 0} (x : A) (f : Refusal → A) (r : Refusal) → by-number x f (number r) ≡ f r
 at-refusal x f Misshapen = refl

@@ -1,33 +1,33 @@
--- A call that is not refused does what `carried` says, a range that is cut in two is walked in two, and what a pass walks ends at or below the length.
+-- A call that is not refused does what `carried` says, a range that is cut in two is walked in two, and what a pass
+-- walks ends at or below the length.
 use Prim.Native.Nat.{ℕ, zero, suc, _+_, _-_, _≤_, _<_, zero-le}
 use native.Mathlib.Nat.{zero-add, add-zero, add-suc, suc-add, sub-self, add-sub-of-le}
 use native.Mathlib.Omega.{arith}
 use mathlib.Core.Path.{_≡_, refl, sym, ap, subst, _∙_}
-use mathlib.Core.Bool.{true, false, not, _&&_, true≢false, and-eq-true-iff}
+use mathlib.Core.Bool.{true, false, true≢false, and-eq-true-iff}
 use mathlib.Core.List.{List, [], _∷_, _++_, map, map-append}
-use mathlib.Core.Option.{some, none, Option·some-injective}
-use borrow.Author.Tests.{ltb-true, not-true}
-use lib.Dec.{ltb, eqb}
+use mathlib.Core.Option.{some, none}
+use borrow.Author.Tests.{ltb-true}
+use lib.Dec.{ltb}
 use lib.ListN.{length, getD, set, length-map}
 use lib.Seq.{getD-set-other}
 use Rattle.tape.specs.Numbers.{Numbers}
-use Rattle.tape.specs.Machine.{Arrays, Machine, machine, capacity, slot, all}
-use Rattle.tape.specs.Handles.{plain, node, live, handles, any-plain}
+use Rattle.tape.specs.Machine.{Arrays, Machine, machine, slot, all, most-nodes}
+use Rattle.tape.specs.Handles.{plain, node, handles}
 use Rattle.tape.specs.Walk.{Edge, push, walk, edges-from, edges-at, indexes, sum, visited, sound}
 use Rattle.tape.specs.Answers.{Answer, number, done, counted}
 use Rattle.tape.specs.Calls.{reset-mark, Pass, backward, backward-to-mark, backward-mark-to-start, propagate-to-mark, propagate-mark-to-start, Call, move, operate, clear, pass, value-of, adjoint-of, is-live, list, moved, with-adjoints, plan, carried}
-use Rattle.tape.specs.Admission.{is-lent, fits, let-in}
-use Rattle.tape.specs.Refusals.{asked, unknown, first-amiss, would-record, too-long, last-serial, refusals}
+use Rattle.tape.specs.Admission.{let-in}
+use Rattle.tape.specs.Refusals.{refusal-of, asked, unknown, first-amiss, too-long}
 use Rattle.tape.specs.Steps.{step, run}
 use Rattle.tape.specs.Kept.{fresh, after}
 use Rattle.tape.specs.Passes.{EachEdge, push-edge-by-edge, OnlyAdjoints, EmptyRange, BothRanges, NeverUnsound, Unrefused, counts, in-one, in-two}
-use Rattle.tape.specs.declared.errors.Refusal.the-variants.{UnsoundEdge}
-use Rattle.tape.specs.declared.node.Handle.{Handle}
+use Rattle.tape.specs.declared.errors.Refusal.{Refusal}
 use Rattle.tape.specs.declared.admission.Caller.the-variants as caller
-use Rattle.tape.proofs.OneToOne.{by-number, at-refusal, one-to-one}
+use Rattle.tape.proofs.OneToOne.{by-number, at-refusal}
 use Rattle.tape.proofs.Ranges.{length-indexes, indexes-cut, sum-append, all-append, all-below}
 use Rattle.tape.proofs.Recording.{SoundNodes, recording}
-use Rattle.tape.proofs.Steps.{Hit, here, there, hit, hits, other, granted-shape, Passed, shape, sound-range, by-refusal, first-live}
+use Rattle.tape.proofs.Steps.{by-table, granted-shape, Passed, shape, sound-range, by-refusal, first-live}
 use Rattle.tape.proofs.Tests.{by-test, Fit, fit, state-fit-so, refits}
 
 -- ---- each edge
@@ -109,7 +109,7 @@ reset M = machine (moved reset-mark (M .state)) (M .lent)
 module _ {N : Numbers} (M : Machine N) (f : Fit M) where
   resets : step (move reset-mark) M ≡ (done, reset M)
   unfolding step
-  resets = rw (state-fit-so 65535 (M .state) (record { length = omega arith; mark = omega arith; next = f .state .next }))
+  resets = rw (state-fit-so most-nodes (M .state) (record { length = omega arith; mark = omega arith; next = f .state .next }))
 
   walks-whole : all (map (sound (M .lent)) (indexes 0 (M .state .length - 0))) ≡ true → step (pass propagate-to-mark) (reset M) ≡ carried (pass propagate-to-mark) (reset M)
   unfolding step
@@ -143,7 +143,8 @@ both-ranges = record {
 
 -- ---- sound tapes
 
-ends : {N : Numbers} (p : Pass N) (M : Machine N) → Fit M → first-amiss M (handles (plan p (M .state) .root)) ≡ none → plan p (M .state) .end ≤ M .state .length
+-- what a pass walks ends at or below the length
+pub ends : {N : Numbers} (p : Pass N) (M : Machine N) → Fit M → first-amiss M (handles (plan p (M .state) .root)) ≡ none → plan p (M .state) .end ≤ M .state .length
 ends (backward (plain x)) M f all-live = omega arith
 ends (backward (node h)) M f all-live = let l = first-live M h [] all-live .0 in omega arith
 ends (backward-to-mark x) M f all-live = omega arith
@@ -165,23 +166,18 @@ module _ {N : Numbers} (M : Machine N) (nodes : SoundNodes M) where
   range-sound (is-live x) _ _ = refl
   range-sound (list bytes) _ _ = refl
 
-  not-amiss : (hs : List Handle) → first-amiss M hs ≡ some UnsoundEdge → ⊥
-  not-amiss [] e = let z : _≡_ {A = ℕ} 0 1 = cc in omega arith
-  not-amiss (h ∷ hs) e = by-test (λ o. o ≡ some UnsoundEdge → ⊥) (live M h) (λ _. not-amiss hs) (λ _ e′. let z : _≡_ {A = ℕ} 3 7 = ap number (Option·some-injective _ _ e′) in omega arith) e
-
   -- no other row gives refusal 7
-  not-hit : (c : Call N) → Hit UnsoundEdge (refusals (asked c (M .state)) M) → ⊥
-  not-hit c (here e) = let q = asked c (M .state) in other (not (fits (is-lent (q .caller)) M)) _ _ e refl
-  not-hit c (there _ (here e)) = let q = asked c (M .state) in other (unknown (q .operation)) _ _ e refl
-  not-hit c (there _ (there _ (here e))) = let q = asked c (M .state) in not-amiss (handles (q .operands)) e
-  not-hit c (there _ (there _ (there _ (here e)))) = let q = asked c (M .state) in other (q .on-tape && any-plain (q .operands)) _ _ e refl
-  not-hit c (there _ (there _ (there _ (there _ (here e))))) = let q = asked c (M .state) in other (would-record (q .operation) M && eqb (M .state .length) (capacity (M .lent))) _ _ e refl
-  not-hit c (there _ (there _ (there _ (there _ (there _ (here e)))))) = let q = asked c (M .state) in other (would-record (q .operation) M && eqb (M .state .next) last-serial) _ _ e refl
-  not-hit c (there in-so (there _ (there all-live (there _ (there _ (there _ (here e))))))) =
-      let sound-so = range-sound c in-so all-live in
-      true≢false (sym sound-so ∙ not-true _ (hits _ _ _ e))
-  not-hit c (there _ (there _ (there _ (there _ (there _ (there _ (there _ (here e)))))))) = let q = asked c (M .state) in other (too-long (q .room) M) _ _ e refl
-  not-hit c (there _ (there _ (there _ (there _ (there _ (there _ (there _ (there _ h)))))))) = elim h [ ]
+  not-unsound : (c : Call N) (r : Refusal) → refusal-of c M ≡ some r → number r ≡ 7 → ⊥
+  not-unsound c = by-table (λ r. number r ≡ 7 → ⊥) c M (record {
+    misshapen = λ e. omega arith;
+    unknown = λ e. omega arith;
+    not-live = λ h e. omega arith;
+    detached = λ e. omega arith;
+    full = λ e. omega arith;
+    spent = λ e. omega arith;
+    unsound = λ in-so all-live e _. true≢false (sym (range-sound c in-so all-live) ∙ e);
+    too-long = λ e. omega arith;
+  })
 
 pub carried-number : {N : Numbers} (c : Call N) (M : Machine N) → carried c M .0 .number ≡ 0
 carried-number {N} (operate op left right g) M = by-test (λ (x : Answer N × Machine N). x .0 .number ≡ 0) (M .state .active) (λ _. refl) (λ _. refl)
@@ -201,6 +197,6 @@ never-unsound = record {
       (λ x. x .0 .number ≡ 7 → ⊥)
       c
       M
-      (λ r h e. not-hit M (recording .sound-nodes A before) c (hit _ _ (h ∙ ap some (one-to-one .numbers r UnsoundEdge e))))
+      (not-unsound M (recording .sound-nodes A before) c)
       (λ _ e. omega (arith, carried-number c M));
 }

@@ -2,8 +2,10 @@
 use Rattle.tape.specs.Answers.{OneToOne}
 use Rattle.tape.specs.Kept.{StaleHandles, Revived, Serials, Recording}
 use Rattle.tape.specs.Passes.{EachEdge, OnlyAdjoints, EmptyRange, BothRanges, NeverUnsound}
-use Rattle.tape.specs.Rows.{EveryRow, EveryText}
+use Rattle.tape.specs.Rows.{EveryRow, EveryChoice, EveryText}
+use Rattle.tape.specs.Pairs.{Order}
 use Rattle.tape.proofs.OneToOne as answers
+use Rattle.tape.proofs.Pairs as pairs
 use Rattle.tape.proofs.Passes as passes
 use Rattle.tape.proofs.Recording as recorded
 use Rattle.tape.proofs.Revived as alive
@@ -44,5 +46,11 @@ never-unsound = passes.never-unsound
 every-row : EveryRow
 every-row = rows.every-row
 
+every-choice : EveryChoice
+every-choice = rows.every-choice
+
 every-text : EveryText
 every-text = rows.every-text
+
+order : Order
+order = pairs.order

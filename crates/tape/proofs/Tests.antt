@@ -6,7 +6,7 @@ use mathlib.Core.List.{List, [], _∷_, _++_}
 use borrow.Author.Tests.{leb-true, eqb-true, eqb-false, not-true, le-leb, eq-eqb, ne-eqb}
 use lib.ListN.{length}
 use Rattle.tape.specs.Numbers.{Numbers}
-use Rattle.tape.specs.Machine.{Machine, machine, capacity, slot, all}
+use Rattle.tape.specs.Machine.{Machine, machine, capacity, slot, all, most-nodes}
 use Rattle.tape.specs.Admission.{lengths, fits, arrays-fit, state-fits}
 use Rattle.tape.specs.declared.tape.Tape.{Tape}
 
@@ -42,7 +42,7 @@ pub state-fit : (n : ℕ) (t : Tape) → all (state-fits n t) ≡ true → State
 state-fit n t e = of-tests n t (every (state-fits n t) e)
 
 pub record Fit {N : Numbers} (M : Machine N) : Type 0 where
-  pub small : capacity (M .lent) ≤ 65535
+  pub small : capacity (M .lent) ≤ most-nodes
   pub adjoint : length (M .lent .adjoint) ≡ capacity (M .lent)
   pub serial : length (M .lent .serial) ≡ capacity (M .lent)
   pub count : length (M .lent .count) ≡ capacity (M .lent)

@@ -1,4 +1,5 @@
--- What is asked at the head of every call: refusal 1. It is the first row of the refusal table and one function of the code.
+-- What is asked at the head of every call: refusal 1. It is the first row of the refusal table and one function of the
+-- code.
 use Prim.Native.Nat.{ℕ}
 use mathlib.Core.Bool.{Bool, true, false, not, cond}
 use mathlib.Core.List.{List, [], _∷_, _++_}
@@ -17,7 +18,8 @@ use Rattle.tape.specs.declared.errors.Refusal.the-variants.{Misshapen}
 use Rattle.tape.specs.declared.tape.Tape.{Tape}
 
 abbrev pub lengths : {N : Numbers} → Arrays N → Lengths
-lengths A = record { value = length (A .value); adjoint = length (A .adjoint); serial = length (A .serial); count = length (A .count); child = length (A .child); partial = length (A .partial) }
+lengths A =
+    record { value = length (A .value); adjoint = length (A .adjoint); serial = length (A .serial); count = length (A .count); child = length (A .child); partial = length (A .partial) }
 
 abbrev pub no-arrays : Lengths
 no-arrays = record { value = 0; adjoint = 0; serial = 0; count = 0; child = 0; partial = 0 }

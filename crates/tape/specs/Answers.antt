@@ -1,7 +1,7 @@
--- What a call returns, as document 01 has it: a number, a value, a handle and a count. Number 0 is an answer; the others are the refusals, in the order in which they are tested.
+-- What a call returns, as document 01 has it: a number, a value, a handle and a count. Number 0 is an answer; the
+-- others are the refusals.
 use Prim.Native.Nat.{ℕ}
 use mathlib.Core.Path.{_≡_}
-use mathlib.Core.List.{List, [], _∷_}
 use mathlib.Core.Option.{Option, none, some}
 use Rattle.tape.specs.Numbers.{Numbers, floats}
 use Rattle.tape.specs.Machine.{Arrays, Machine, machine}
@@ -20,10 +20,6 @@ number Full = 5
 number SerialsSpent = 6
 number UnsoundEdge = 7
 number ListingTooLong = 8
-
--- document 01's list of refusals
-abbrev pub listed : List Refusal
-listed = Misshapen ∷ UnknownOperation ∷ NotLive ∷ Detached ∷ Full ∷ SerialsSpent ∷ UnsoundEdge ∷ ListingTooLong ∷ []
 
 pub record Answer (N : Numbers) : Type 0 where
   pub number : ℕ

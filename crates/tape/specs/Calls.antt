@@ -63,7 +63,8 @@ issued t = record { index = t .length; serial = t .next }
 abbrev pub grown : Tape → Tape
 grown t = with-next (t .next + 1) (with-length (t .length + 1) t)
 
--- the arrays once the node is written at that index, its adjoint +0.0, its edges from its slot on; edge slots that it does not use keep what they held
+-- the arrays once the node is written at that index, its adjoint +0.0, its edges from its slot on; edge slots that it
+-- does not use keep what they held
 abbrev pub with-node : {N : Numbers} → Handle → Arrays N → N .Number → List (Edge N) → Arrays N
 with-node {N} h A v es =
     arrays
@@ -81,13 +82,15 @@ written M v es = machine (grown (M .state)) (with-node (issued (M .state)) (M .l
 -- ---- clearing and passes
 
 abbrev pub with-adjoints : {N : Numbers} → Machine N → List (N .Number) → Machine N
-with-adjoints M s = machine (M .state) (arrays (M .lent .value) s (M .lent .serial) (M .lent .count) (M .lent .child) (M .lent .partial))
+with-adjoints M s =
+    machine (M .state) (arrays (M .lent .value) s (M .lent .serial) (M .lent .count) (M .lent .child) (M .lent .partial))
 
 -- +0.0 in each live adjoint; those past the length stay
 abbrev pub cleared : {N : Numbers} → Machine N → Machine N
 cleared {N} M = let n = M .state .length in with-adjoints M (replicate n (N .nought) ++ drop n (M .lent .adjoint))
 
--- what a pass does: the adjoint of its root, if it has one, is set to 1.0, and then the nodes from end - 1 down to from are walked
+-- what a pass does: the adjoint of its root, if it has one, is set to 1.0, and then the nodes from end - 1 down to from
+-- are walked
 pub record Plan (N : Numbers) : Type 0 where
   pub root : List (Operand N)
   pub from : ℕ

@@ -18,7 +18,8 @@ use Rattle.tape.specs.declared.tape.Tape.{Tape}
 
 -- its index is below the length, its serial is not 0, and the serial stored at that index is the same
 abbrev pub lives : ℕ → List ℕ → Handle → Bool
-lives length serials h = all (ltb (h .index) length ∷ not (eqb (h .serial) 0) ∷ eqb (getD serials (h .index) 0) (h .serial) ∷ [])
+lives length serials h =
+    all (ltb (h .index) length ∷ not (eqb (h .serial) 0) ∷ eqb (getD serials (h .index) 0) (h .serial) ∷ [])
 
 -- why a handle that is not live is refused
 abbrev pub amiss : Tape → Handle → Refusal

@@ -10,7 +10,8 @@ use Rattle.tape.specs.Walk.{indexes}
 use Rattle.tape.specs.declared.tape.Tape.{Tape}
 
 abbrev pub header : Tape → List ℕ
-header t = bytes "nodes=" ++ decimal (t .length) ++ bytes " mark=" ++ decimal (t .mark) ++ bytes " active=" ++ decimal (cond (t .active) 1 0) ++ bytes "\n"
+header t =
+    bytes "nodes=" ++ decimal (t .length) ++ bytes " mark=" ++ decimal (t .mark) ++ bytes " active=" ++ decimal (cond (t .active) 1 0) ++ bytes "\n"
 
 abbrev pub line : {N : Numbers} → Arrays N → ℕ → List ℕ
 line {N} A i =

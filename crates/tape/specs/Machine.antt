@@ -1,4 +1,5 @@
--- The machine: a small state and six lent arrays. The state is the code's own `Tape`: length, mark, active flag, next serial.
+-- The machine: a small state and six lent arrays. The state is the code's own `Tape`: length, mark, active flag, next
+-- serial.
 use Prim.Native.Nat.{ℕ, _*_}
 use mathlib.Core.Bool.{Bool, true, false, _&&_}
 use mathlib.Core.List.{List, [], _∷_}
@@ -21,7 +22,8 @@ pub record Machine (N : Numbers) : Type 0 where
   pub state : Tape
   pub lent : Arrays N
 
-abbrev pub arrays : {N : Numbers} → List (N .Number) → List (N .Number) → List ℕ → List ℕ → List ℕ → List (N .Number) → Arrays N
+abbrev pub arrays : {N : Numbers} → List (N .Number) → List (N .Number) → List ℕ → List ℕ → List ℕ → List (N .Number)
+    → Arrays N
 arrays v a s c h p = record { value = v; adjoint = a; serial = s; count = c; child = h; partial = p }
 
 abbrev pub machine : {N : Numbers} → Tape → Arrays N → Machine N
@@ -74,9 +76,13 @@ abbrev pub Lent : Type 0 → Type 0
 Lent X = Both (RefT (List X)) (RefT (List X))
 
 -- the six arrays as the call finds them
-abbrev pub lent-before : Lent (floats .Number) → Lent (floats .Number) → Lent ℕ → Lent ℕ → Lent ℕ → Lent (floats .Number) → Arrays floats
-lent-before v a s c h p = arrays (v .entry .now) (a .entry .now) (s .entry .now) (c .entry .now) (h .entry .now) (p .entry .now)
+abbrev pub lent-before : Lent (floats .Number) → Lent (floats .Number) → Lent ℕ → Lent ℕ → Lent ℕ
+    → Lent (floats .Number) → Arrays floats
+lent-before v a s c h p =
+    arrays (v .entry .now) (a .entry .now) (s .entry .now) (c .entry .now) (h .entry .now) (p .entry .now)
 
 -- and as it leaves them
-abbrev pub lent-after : Lent (floats .Number) → Lent (floats .Number) → Lent ℕ → Lent ℕ → Lent ℕ → Lent (floats .Number) → Arrays floats
-lent-after v a s c h p = arrays (v .exit .now) (a .exit .now) (s .exit .now) (c .exit .now) (h .exit .now) (p .exit .now)
+abbrev pub lent-after : Lent (floats .Number) → Lent (floats .Number) → Lent ℕ → Lent ℕ → Lent ℕ → Lent (floats .Number)
+    → Arrays floats
+lent-after v a s c h p =
+    arrays (v .exit .now) (a .exit .now) (s .exit .now) (c .exit .now) (h .exit .now) (p .exit .now)

@@ -1,4 +1,5 @@
--- The operations table, with no tape in it: an operation number, the values of its operands and what the host supplied give a value and partials.
+-- The operations table, with no tape in it: an operation number, the values of its operands and what the host supplied
+-- give a value and partials.
 use Prim.Native.Nat.{ℕ}
 use mathlib.Core.Bool.{Bool, _||_, cond}
 use mathlib.Core.List.{List, [], _∷_}

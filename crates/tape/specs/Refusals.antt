@@ -40,19 +40,24 @@ abbrev pub asks : {N : Numbers} → Caller → Asked N
 asks k = record { caller = k; operation = none; operands = []; on-tape = false; range = []; room = none }
 
 abbrev pub with-operation : {N : Numbers} → ℕ → Asked N → Asked N
-with-operation op q = record { caller = q .caller; operation = some op; operands = q .operands; on-tape = q .on-tape; range = q .range; room = q .room }
+with-operation op q =
+    record { caller = q .caller; operation = some op; operands = q .operands; on-tape = q .on-tape; range = q .range; room = q .room }
 
 abbrev pub with-operands : {N : Numbers} → List (Operand N) → Asked N → Asked N
-with-operands os q = record { caller = q .caller; operation = q .operation; operands = os; on-tape = q .on-tape; range = q .range; room = q .room }
+with-operands os q =
+    record { caller = q .caller; operation = q .operation; operands = os; on-tape = q .on-tape; range = q .range; room = q .room }
 
 abbrev pub all-on-tape : {N : Numbers} → Asked N → Asked N
-all-on-tape q = record { caller = q .caller; operation = q .operation; operands = q .operands; on-tape = true; range = q .range; room = q .room }
+all-on-tape q =
+    record { caller = q .caller; operation = q .operation; operands = q .operands; on-tape = true; range = q .range; room = q .room }
 
 abbrev pub with-range : {N : Numbers} → List ℕ → Asked N → Asked N
-with-range is q = record { caller = q .caller; operation = q .operation; operands = q .operands; on-tape = q .on-tape; range = is; room = q .room }
+with-range is q =
+    record { caller = q .caller; operation = q .operation; operands = q .operands; on-tape = q .on-tape; range = is; room = q .room }
 
 abbrev pub with-room : {N : Numbers} → ℕ → Asked N → Asked N
-with-room bytes q = record { caller = q .caller; operation = q .operation; operands = q .operands; on-tape = q .on-tape; range = q .range; room = some bytes }
+with-room bytes q =
+    record { caller = q .caller; operation = q .operation; operands = q .operands; on-tape = q .on-tape; range = q .range; room = some bytes }
 
 -- a start is a call of its own
 abbrev pub mover : Move → Caller

@@ -1,4 +1,5 @@
-// The admission: what is asked at the head of every call, which is told which call asks and how long the arrays are that it is lent.
+// The admission: what is asked at the head of every call, which is told which call asks and how long the arrays are
+// that it is lent.
 use crate::errors::Refusal;
 use crate::node::MOST_EDGES;
 use crate::node::MOST_NODES;

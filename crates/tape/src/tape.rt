@@ -1,4 +1,5 @@
-// The tape's small state. Start, stop, marks and rewinds take it by value and hand it back, as it was where they refuse. None of them touches an array.
+// The tape's small state. Start, stop, marks and rewinds take it by value and hand it back, as it was where they
+// refuse. None of them touches an array.
 use crate::admission::Admission;
 use crate::admission::Caller;
 use crate::admission::Lengths;

@@ -9,7 +9,7 @@ use borrow.Author.Tests.{ltb-true, ltb-false, lt-ltb, le-leb, lt-leb, ne-eqb}
 use lib.Dec.{ltb}
 use lib.ListN.{length, getD, List·getD-append}
 use Rattle.text.specs.Numerals.{digit, digits, places}
-use Rattle.text.specs.Parsed.{worth, read-on, leading-zero, read-decimal}
+use Rattle.text.specs.Parsed.{digit-value, read-on, leading-zero, read-decimal}
 use Rattle.text.specs.Rows.{ReadBack}
 use Rattle.text.specs.declared.read.Parsed.the-variants.{Number}
 use Rattle.text.proofs.Numerals.{length-digits, one-place}
@@ -17,12 +17,12 @@ use Rattle.text.proofs.Reading.{if-passed}
 
 read-then : (b m : ℕ) (front back : List ℕ) (k : ℕ) → read-on b m front ≡ Number k → read-on b m (front ++ back) ≡ read-on b k back
 read-then b m [] back k e = let f : m ≡ k = cc in rw f
-read-then b m (byte ∷ front) back k e = let (digit, rest) = if-passed (ltb (worth byte) b) e in rw digit (read-then b (b * m + worth byte) front back k rest)
+read-then b m (byte ∷ front) back k e = let (digit, rest) = if-passed (ltb (digit-value byte) b) e in rw digit (read-then b (b * m + digit-value byte) front back k rest)
 
-worth-digit : (d : ℕ) → d < 16 → worth (digit d) ≡ d
+worth-digit : (d : ℕ) → d < 16 → digit-value (digit d) ≡ d
 worth-digit d h = by-test (ltb d 10) refl
   where
-    by-test : (t : Bool) → ltb d 10 ≡ t → worth (cond t (48 + d) (87 + d)) ≡ d
+    by-test : (t : Bool) → ltb d 10 ≡ t → digit-value (cond t (48 + d) (87 + d)) ≡ d
     by-test true e = let k = ltb-true d 10 e in simp (le-leb 48 (48 + d) (omega arith), le-leb (48 + d) 57 (omega arith)) (omega arith)
     by-test false e = let k = ltb-false d 10 e in simp (le-leb 48 (87 + d) (omega arith), lt-leb (87 + d) 57 (omega arith), le-leb 97 (87 + d) (omega arith), le-leb (87 + d) 102 (omega arith)) (omega arith)
 

@@ -11,7 +11,7 @@ use lib.Dec.{leb, ltb}
 use lib.ListN.{length, getD, drop, replicate, length-append, drop-of-length-le}
 use lib.Seq.{drop-cons}
 use Rattle.text.specs.Written.{written}
-use Rattle.text.specs.Parsed.{worth, read-on, read-hex-start, leading-zero, read-digits, read-decimal}
+use Rattle.text.specs.Parsed.{digit-value, read-on, read-hex-start, leading-zero, read-digits, read-decimal}
 use Rattle.text.specs.declared.read.Parsed.{Parsed}
 use Rattle.text.specs.declared.read.Parsed.the-variants.{Number, NotANumber}
 
@@ -42,23 +42,23 @@ none-read b text = record { within = omega arith; small = rw (pow-zero b) (omega
 grown : (b n d i : ℕ) → n < b ^ i → d < b → b * n + d < b ^ suc i
 grown b n d i h k = rw (pow-succ' b i) (omega (arith, mul-le-mul-left b h))
 
-pub one-read : {b n i : ℕ} {text : List ℕ} → Read b text n i → i < length text → worth (getD text i 0) < b → Read b text (b * n + worth (getD text i 0)) (i + 1)
+pub one-read : {b n i : ℕ} {text : List ℕ} → Read b text n i → i < length text → digit-value (getD text i 0) < b → Read b text (b * n + digit-value (getD text i 0)) (i + 1)
 one-read {b} {n} {i} {text} r h k = record {
   within = omega arith;
-  small = rw (add-one i) (grown b n (worth (getD text i 0)) i (r .small) k);
+  small = rw (add-one i) (grown b n (digit-value (getD text i 0)) i (r .small) k);
   whole = rw (add-one i) (sym (rw (lt-ltb _ _ k) at (ap (read-on b n) (drop-cons text i 0 h))) ∙ r .whole);
 }
 
-pub not-read : {b n i : ℕ} {text : List ℕ} → Read b text n i → i < length text → b ≤ worth (getD text i 0) → NotANumber ≡ read-on b 0 text
+pub not-read : {b n i : ℕ} {text : List ℕ} → Read b text n i → i < length text → b ≤ digit-value (getD text i 0) → NotANumber ≡ read-on b 0 text
 not-read {b} {n} {i} {text} r h k = sym (rw (le-ltb _ _ k) at (ap (read-on b n) (drop-cons text i 0 h))) ∙ r .whole
 
 pub all-read : {b n i : ℕ} {text : List ℕ} → Read b text n i → length text ≤ i → Number n ≡ read-on b 0 text
 all-read {text = text} r h = rw (drop-of-length-le text h) at (r .whole)
 
 -- what is read next still fits
-pub one-fits : {b n i : ℕ} {text : List ℕ} → Read b text n i → i < length text → worth (getD text i 0) < b → b ^ length text ≤ 2 ^ 64 → b * n + worth (getD text i 0) < 2 ^ 64
+pub one-fits : {b n i : ℕ} {text : List ℕ} → Read b text n i → i < length text → digit-value (getD text i 0) < b → b ^ length text ≤ 2 ^ 64 → b * n + digit-value (getD text i 0) < 2 ^ 64
 one-fits {b} {n} {i} {text} r h k most =
-    omega (arith, grown b n (worth (getD text i 0)) i (r .small) k, pow-le-pow-right {n = b} (omega arith) {i = suc i} {j = length text} h)
+    omega (arith, grown b n (digit-value (getD text i 0)) i (r .small) k, pow-le-pow-right {n = b} (omega arith) {i = suc i} {j = length text} h)
 
 -- ---- a pattern that is cut short
 
@@ -82,9 +82,9 @@ if-not false e = (refl, e)
 read-small : (b m : ℕ) (text : List ℕ) (n : ℕ) → read-on b m text ≡ Number n → n < suc m * b ^ length text
 read-small b m [] n e = let f : m ≡ n = cc in rw (pow-zero b) (omega arith)
 read-small b m (byte ∷ text) n e =
-    let (digit, rest) = if-passed (ltb (worth byte) b) e in
-    let below : suc (b * m + worth byte) ≤ b * suc m = omega (arith, ltb-true (worth byte) b digit) in
-    rw (pow-succ' b (length text)) (omega (arith, read-small b (b * m + worth byte) text n rest, mul-le-mul-right (b ^ length text) below))
+    let (digit, rest) = if-passed (ltb (digit-value byte) b) e in
+    let below : suc (b * m + digit-value byte) ≤ b * suc m = omega (arith, ltb-true (digit-value byte) b digit) in
+    rw (pow-succ' b (length text)) (omega (arith, read-small b (b * m + digit-value byte) text n rest, mul-le-mul-right (b ^ length text) below))
 
 pub digits-small : (most : ℕ) (text : List ℕ) (n : ℕ) → read-digits most text ≡ Number n → n < 10 ^ most
 digits-small most text n e =

@@ -7,14 +7,14 @@ use lib.ListN.{length, drop, getD, replicate}
 use Rattle.text.specs.declared.read.Parsed.{Parsed}
 use Rattle.text.specs.declared.read.Parsed.the-variants.{Number, NotANumber}
 
--- what a byte is worth as a digit, 0 to 9 and a to f; 16, which is no digit's worth, if it is none
-abbrev pub worth : ℕ → ℕ
-worth byte = cond (leb 48 byte && leb byte 57) (byte - 48) (cond (leb 97 byte && leb byte 102) (byte - 87) 16)
+-- the value of a byte as a digit, 0 to 9 and a to f; 16, which no digit has, if it is none
+abbrev pub digit-value : ℕ → ℕ
+digit-value byte = cond (leb 48 byte && leb byte 57) (byte - 48) (cond (leb 97 byte && leb byte 102) (byte - 87) 16)
 
 -- the number that n and the digits after it make in base b, if they are digits of that base
 abbrev pub read-on : ℕ → ℕ → List ℕ → Parsed
 read-on b n [] = Number n
-read-on b n (byte ∷ text) = cond (ltb (worth byte) b) (read-on b (b * n + worth byte) text) NotANumber
+read-on b n (byte ∷ text) = cond (ltb (digit-value byte) b) (read-on b (b * n + digit-value byte) text) NotANumber
 
 -- 16 hex digits, and nothing else
 abbrev pub read-hex : List ℕ → Parsed

@@ -2,7 +2,7 @@
 ghost use Prim.Native.Nat.{_≤_, _^_};
 ghost use mathlib.Core.Path.{_≡_};
 ghost use lib.ListN.{length};
-ghost use Rattle.text.specs.Parsed.{worth, leading-zero, read-on, read-hex, read-hex-start, read-digits, read-decimal};
+ghost use Rattle.text.specs.Parsed.{digit-value, leading-zero, read-on, read-hex, read-hex-start, read-digits, read-decimal};
 
 pub enum Parsed {
     Number(u64),
@@ -74,7 +74,7 @@ fn value(text: &[u8], base: u64) -> Parsed
     let mut n = 0;
     let mut i = 0;
     while i < text.len() {
-        let digit = worth(text[i]);
+        let digit = digit_value(text[i]);
         if base <= digit {
             return Parsed::NotANumber;
         }
@@ -84,8 +84,8 @@ fn value(text: &[u8], base: u64) -> Parsed
     Parsed::Number(n)
 }
 
-fn worth(byte: u8) -> u64
-    ensures { λ x. ⌜ x ≡ worth byte ⌝ }
+fn digit_value(byte: u8) -> u64
+    ensures { λ x. ⌜ x ≡ digit-value byte ⌝ }
 {
     if (b'0' <= byte) & (byte <= b'9') {
         return byte as u64 - 48;

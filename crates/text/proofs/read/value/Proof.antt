@@ -4,7 +4,7 @@ use native.Mathlib.Omega.{arith}
 use mathlib.Core.Path.{_≡_}
 use borrow.Author.Needs.{needs}
 use lib.ListN.{length, getD}
-use Rattle.text.specs.Parsed.{worth}
+use Rattle.text.specs.Parsed.{digit-value}
 use Rattle.text.proofs.Reading.{Read, none-read, one-read, not-read, all-read, one-fits}
 use Rattle.text.proofs.read.value.Statement.{statement}
 use Rattle.text.proofs.read.value.Tie as tie
@@ -15,10 +15,10 @@ Inv-loop text base n₀ i₀ n i = Read base text n i
 abbrev μ-loop : tie.MeasureT-loop
 μ-loop text base n₀ i₀ n i = length text - i
 
-fits : (c : tie.Else1 Inv-loop μ-loop) → c .before .before .before .before .before .before .args .base * c .before .before .before .before .loop .n + c .before .worth .result < 2 ^ 64
+fits : (c : tie.Else1 Inv-loop μ-loop) → c .before .before .before .before .before .before .args .base * c .before .before .before .before .loop .n + c .before .digit-value .result < 2 ^ 64
 fits c =
     let turn = c .before .before .before in
-    rw (c .before .worth .ensures) (one-fits (turn .before .loop .inv) (turn .loop-test .taken) (rw (c .before .worth .ensures) at (c .if1 .left)) (turn .before .before .before .pre .1))
+    rw (c .before .digit-value .ensures) (one-fits (turn .before .loop .inv) (turn .loop-test .taken) (rw (c .before .digit-value .ensures) at (c .if1 .left)) (turn .before .before .before .pre .1))
 
 pub value-spec : {M : Type 1} → statement M
 value-spec =
@@ -30,11 +30,11 @@ value-spec =
     (λ c. search needs) (λ c κs. search needs)
     (λ c.
     let turn = c .before .before .before in
-    not-read (turn .before .loop .inv) (turn .loop-test .taken) (rw (c .before .worth .ensures) at (c .if1 .taken)))
+    not-read (turn .before .loop .inv) (turn .loop-test .taken) (rw (c .before .digit-value .ensures) at (c .if1 .taken)))
     (λ c. omega (arith, fits c))
     (λ c. omega (arith, fits c))
     (λ c. search needs) (λ c. search needs)
     (λ c.
     let turn = c .before .before .before in
-    rw (c .before .worth .ensures) (one-read (turn .before .loop .inv) (turn .loop-test .taken) (rw (c .before .worth .ensures) at (c .if1 .left))))
+    rw (c .before .digit-value .ensures) (one-read (turn .before .loop .inv) (turn .loop-test .taken) (rw (c .before .digit-value .ensures) at (c .if1 .left))))
     (λ c. all-read (c .before .loop .inv) (c .loop-test .left)))

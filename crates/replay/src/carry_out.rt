@@ -5,9 +5,7 @@ use crate::calls::NO_WORD;
 use crate::calls::REFUSED;
 use crate::calls::Said;
 use crate::calls::VISITED;
-use crate::kinds;
-use crate::kinds::*;
-use crate::nodes::NOTHING;
+use crate::tape_kinds::*;
 use crate::words::digest;
 use dual::Cleared;
 use dual::Passed;
@@ -19,6 +17,7 @@ use dual::passes::backward_to_mark;
 use dual::passes::propagate_mark_to_start;
 use dual::passes::propagate_to_mark;
 use expr::Recorded;
+use expr::Supplied;
 use expr::recording::record;
 use listing::bits_of;
 use tape::Handle;
@@ -26,7 +25,6 @@ use tape::Moved;
 use tape::Operand;
 use tape::Refusal;
 use tape::Tape;
-ghost use Prim.Native.Nat.{_≤_, _<_};
 
 // Stands where no node was recorded: a handle with serial 0 is never live.
 pub const NO_NODE: Handle = Handle {
@@ -54,10 +52,10 @@ pub(crate) fn carry_out(
     kind: usize,
     left: Operand,
     right: Operand,
-) -> Heard
-    requires { ⌜ (23 ≤ kind) × (kind < 47) ⌝ }
-{
-    if kind < CALLS {
+    given: Supplied,
+) -> Heard {
+    if is_operation(kind) {
+        let op = operation(kind);
         return after_recording(record(
             tape,
             value,
@@ -66,13 +64,13 @@ pub(crate) fn carry_out(
             count,
             child,
             partial,
-            (kind - OPERATIONS) as u8,
+            op,
             left,
             right,
-            NOTHING,
+            given,
         ));
     }
-    carry_out_other(
+    answer(
         tape,
         value,
         adjoint,
@@ -86,24 +84,6 @@ pub(crate) fn carry_out(
 }
 
 // A call that records nothing, and so writes no array but the adjoints.
-fn carry_out_other(
-    tape: Tape,
-    value: &[f64],
-    adjoint: &mut [f64],
-    serial: &[u64],
-    count: &[u8],
-    child: &[u16],
-    partial: &[f64],
-    kind: usize,
-    x: Operand,
-) -> Heard {
-    let heard = answer(tape, value, adjoint, serial, count, child, partial, kind, x);
-    if kinds::is_digested(kind) {
-        return with_digests(heard, value, &*adjoint);
-    }
-    heard
-}
-
 fn answer(
     tape: Tape,
     value: &[f64],
@@ -115,7 +95,7 @@ fn answer(
     kind: usize,
     x: Operand,
 ) -> Heard {
-    if kinds::is_pass(kind) {
+    if is_pass(kind) {
         let passed = pass(tape, value, adjoint, serial, count, child, partial, kind, x);
         return after_pass(tape, passed);
     }
@@ -234,7 +214,11 @@ fn with_node(mut heard: Heard, node: Handle) -> Heard {
     heard
 }
 
-fn with_digests(mut heard: Heard, value: &[f64], adjoint: &[f64]) -> Heard {
+// With the digests, where a sequence has them after such a call.
+pub(crate) fn with_digests(mut heard: Heard, kind: usize, value: &[f64], adjoint: &[f64]) -> Heard {
+    if !is_digested(kind) {
+        return heard;
+    }
     let length = heard.tape.length;
     heard.values = digest(value, length);
     heard.adjoints = digest(adjoint, length);

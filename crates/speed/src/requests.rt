@@ -5,20 +5,20 @@ ghost use Prim.Native.Nat.{_<_};
 // No more digits are read once a number has come this far.
 const MOST_TIMES: u64 = 1_000_000;
 
-pub struct Order {
+pub struct Request {
     pub reach: Reach,
     pub named: bool,
     pub times: u64,
 }
 
-pub const NONE: Order = Order {
+pub const NONE: Request = Request {
     reach: Reach::Regular,
     named: false,
     times: 0,
 };
 
-impl Order {
-    pub(crate) fn with(self, byte: u8) -> Order {
+impl Request {
+    pub(crate) fn with(self, byte: u8) -> Request {
         match byte {
             b'n' => self.on(Reach::Near),
             b'a' => self.on(Reach::Anywhere),
@@ -29,18 +29,18 @@ impl Order {
     }
 
     // A plan is named by its first letter, and the letters after it name none.
-    fn on(self, reach: Reach) -> Order {
+    fn on(self, reach: Reach) -> Request {
         if self.named {
             return self;
         }
-        Order {
+        Request {
             reach,
             named: true,
             times: self.times,
         }
     }
 
-    fn digit(mut self, digit: u8) -> Order
+    fn digit(mut self, digit: u8) -> Request
         requires { ⌜ digit < 10 ⌝ }
     {
         if self.times < MOST_TIMES {

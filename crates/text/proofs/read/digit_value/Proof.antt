@@ -4,11 +4,11 @@ use native.Mathlib.Omega.{arith}
 use mathlib.Core.Bool.{and-eq-true-iff}
 use borrow.Author.Tests.{leb-true}
 use lib.Dec.{leb}
-use Rattle.text.proofs.read.worth.Statement.{statement}
-use Rattle.text.proofs.read.worth.Tie as tie
+use Rattle.text.proofs.read.digit_value.Statement.{statement}
+use Rattle.text.proofs.read.digit_value.Tie as tie
 
-pub worth-spec : {M : Type 1} → statement M
-worth-spec =
+pub digit-value-spec : {M : Type 1} → statement M
+digit-value-spec =
     tie.close
     (tie.spec
     (λ c. leb-true _ _ (and-eq-true-iff (leb 48 (c .before .args .byte)) _ .0 (c .if1 .taken) .0))

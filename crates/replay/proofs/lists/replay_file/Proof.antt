@@ -1,13 +1,13 @@
--- `lists::replay` lends its whole array: so long a list is counted by a lemma, not by computing it.
+-- `replay_file` lends its whole array: so long a list is counted by a lemma, not by computing it.
 use mathlib.Core.Path.{sym}
 use Prim.Native.Nat.{ℕ}
 use lib.ListN.{length-replicate}
 use borrow.Author.Needs.{needs}
-use Rattle.replay.proofs.lists.replay.Statement.{statement}
-use Rattle.replay.proofs.lists.replay.Tie as tie
+use Rattle.replay.proofs.lists.replay_file.Statement.{statement}
+use Rattle.replay.proofs.lists.replay_file.Tie as tie
 
-pub replay-spec : {M : Type 1} → statement M
-replay-spec =
+pub replay-file-spec : {M : Type 1} → statement M
+replay-file-spec =
     tie.close
     (tie.spec
     (λ c κs. search needs) (λ c. search needs)
