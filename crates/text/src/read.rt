@@ -1,7 +1,6 @@
 // Numbers out of texts, each text read to its end.
 ghost use Prim.Native.Nat.{_≤_, _^_};
 ghost use mathlib.Core.Path.{_≡_};
-ghost use mathlib.Core.Bool.{cond};
 ghost use lib.ListN.{length};
 ghost use Rattle.text.specs.Parsed.{digit-value, leading-zero, read-on, read-hex, read-hex-start, read-digits, read-decimal};
 

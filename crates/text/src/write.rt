@@ -100,8 +100,6 @@ fn digit(d: u64) -> u8
     requires { ⌜ d < 16 ⌝ }
     ensures { λ x. ⌜ x ≡ Numerals·digit d ⌝ }
 {
-    if d < 10 {
-        return 48 + d as u8;
-    }
-    87 + d as u8
+    let all = b"0123456789abcdef";
+    all[d as usize]
 }
