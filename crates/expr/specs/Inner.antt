@@ -8,8 +8,9 @@ use mathlib.Core.Option.{Option, none, some}
 use lib.Dec.{eqb}
 use lib.ListN.{length, getD}
 use lib.Ieee.{Float, nan}
+use denote.Ref.{RefT}
 use Rattle.tape.specs.Numbers.{floats}
-use Rattle.tape.specs.Machine.{Arrays, Machine, capacity, slot, most-nodes, most-edges}
+use Rattle.tape.specs.Machine.{Arrays, Machine, arrays, capacity, slot, most-nodes, most-edges}
 use Rattle.tape.specs.Handles.{usable-as}
 use Rattle.tape.specs.Handles as Handles
 use Rattle.tape.specs.Operations.{row, known, apply}
@@ -34,6 +35,11 @@ use Rattle.expr.specs.declared.operations.Row.the-variants as code
 use Rattle.expr.specs.declared.operations.Supplied.{Supplied}
 use Rattle.expr.specs.declared.edges.Edges.{Edges}
 use Rattle.expr.specs.declared.recording.Decision.{Decision}
+
+-- the six arrays as a private function is lent them
+abbrev pub lent-now : RefT (List Float) → RefT (List Float) → RefT (List ℕ) → RefT (List ℕ) → RefT (List ℕ) → RefT (List Float)
+    → Arrays floats
+lent-now v a s c h p = arrays (v .now) (a .now) (s .now) (c .now) (h .now) (p .now)
 
 -- an index that fits a child's 16 bits
 abbrev pub Small : Operand → Type 0

@@ -16,15 +16,14 @@ ghost use mathlib.Core.Path.{_≡_};
 ghost use mathlib.Core.Bool.{true};
 ghost use lib.Ieee.{nan};
 ghost use lib.ListN.{getD};
-ghost use Rattle.tape.specs.Numbers.{floats};
-ghost use Rattle.tape.specs.Machine.{arrays, machine, lent-after, lent-before, most-nodes, most-edges};
+ghost use Rattle.tape.specs.Machine.{machine, lent-after, lent-before, most-nodes, most-edges};
 ghost use Rattle.tape.specs.Handles.{operand};
 ghost use Rattle.tape.specs.Calls.{operate, with-node};
 ghost use Rattle.tape.specs.Admission.{fits};
 ghost use Rattle.tape.specs.Refusals.{last-serial};
 ghost use Rattle.tape.specs.Steps.{step};
 ghost use Rattle.expr.specs.Outcome.{given, outcome};
-ghost use Rattle.expr.specs.Inner.{Small, Room, Decides, recording-refusal, row-for, usable-operand, both-usable, operand-value-in, row-refusal, refusal-in, edges-in, appended, recorded-if-room};
+ghost use Rattle.expr.specs.Inner.{lent-now, Small, Room, Decides, recording-refusal, row-for, usable-operand, both-usable, operand-value-in, row-refusal, refusal-in, edges-in, appended, recorded-if-room};
 
 // What a recording answers: a value and its node's handle, or a value alone where the tape is inactive, with the state
 // after it; or the refusal and the state as it was.
@@ -228,7 +227,7 @@ fn record_if_room(
     v: f64,
     edges: Edges,
 ) -> Recorded
-    requires { ⌜ (edges .count ≤ most-edges) × (fits true (machine tape (arrays {N = floats} (now value) (now adjoint) (now serial) (now count) (now child) (now partial))) ≡ true) ⌝ }
+    requires { ⌜ (edges .count ≤ most-edges) × (fits true (machine tape (lent-now value adjoint serial count child partial)) ≡ true) ⌝ }
     ensures { λ x. ⌜
         outcome x (lent-after value adjoint serial count child partial)
         ≡ recorded-if-room (machine tape (lent-before value adjoint serial count child partial)) v (edges-in edges) ⌝ }
@@ -266,7 +265,7 @@ fn append(
     v: f64,
     edges: Edges,
 ) -> Recorded
-    requires { ⌜ (edges .count ≤ most-edges) × (tape .next < last-serial) × Room (tape .length) (arrays {N = floats} (now value) (now adjoint) (now serial) (now count) (now child) (now partial)) ⌝ }
+    requires { ⌜ (edges .count ≤ most-edges) × (tape .next < last-serial) × Room (tape .length) (lent-now value adjoint serial count child partial) ⌝ }
     ensures { λ x. ⌜
         outcome x (lent-after value adjoint serial count child partial)
         ≡ appended (machine tape (lent-before value adjoint serial count child partial)) v (edges-in edges) ⌝ }
@@ -303,8 +302,9 @@ fn write(
     v: f64,
     edges: Edges,
 )
-    requires { ⌜ (edges .count ≤ most-edges) × Room (handle .index) (arrays {N = floats} (now value) (now adjoint) (now serial) (now count) (now child) (now partial)) ⌝ }
-    ensures { λ _. ⌜ arrays {N = floats} (now (value .exit)) (now (adjoint .exit)) (now (serial .exit)) (now (count .exit)) (now (child .exit)) (now (partial .exit))
+    requires { ⌜ (edges .count ≤ most-edges) × Room (handle .index) (lent-now value adjoint serial count child partial) ⌝ }
+    ensures { λ _. ⌜
+        lent-after value adjoint serial count child partial
         ≡ with-node handle (lent-before value adjoint serial count child partial) v (edges-in edges) ⌝ }
 {
     let at = handle.index;

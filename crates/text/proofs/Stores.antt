@@ -1,5 +1,5 @@
 -- Runs of stores: two that follow each other are one, and the last of a run may be made first. Where there is room, a run is what a writer leaves.
-use Prim.Native.Nat.{ℕ, suc, _+_, _≤_, _<_}
+use Prim.Native.Nat.{ℕ, suc, _+_, _≤_}
 use native.Mathlib.Nat.{add-zero}
 use native.Mathlib.Omega.{arith}
 use mathlib.Core.Path.{_≡_, sym, ap, _∙_}
@@ -7,7 +7,7 @@ use mathlib.Core.Bool.{true, false}
 use mathlib.Core.List.{List, [], _∷_, _++_, append-assoc}
 use borrow.Author.Tests.{le-leb, leb-true}
 use lib.Dec.{leb}
-use lib.ListN.{length, set, take, drop, length-append}
+use lib.ListN.{length, set, length-append}
 use lib.Seq.{sets, set-comm, length-sets, sets-eq}
 use Rattle.text.specs.Written.{written}
 use Rattle.text.specs.Inner.{Wrote}

@@ -5,7 +5,6 @@ use mathlib.Core.List.{List, [], _∷_}
 use Rattle.text.specs.Numerals.{bytes, digits, hex, decimal}
 use Rattle.text.specs.Written.{written}
 use Rattle.text.specs.Parsed.{read-hex, read-hex-start, read-digits, read-decimal}
-use Rattle.text.specs.declared.read.Parsed.{Parsed}
 use Rattle.text.specs.declared.read.Parsed.the-variants.{Number, NotANumber}
 
 abbrev pub ReadBack : Type 0

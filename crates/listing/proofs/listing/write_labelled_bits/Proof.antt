@@ -1,11 +1,6 @@
 -- The label, then the 16 digits of the bits.
-use Prim.Native.Nat.{ℕ, _+_, _≤_}
-use native.Mathlib.Omega.{arith}
-use mathlib.Core.Path.{_≡_}
-use mathlib.Core.List.{List}
 use borrow.Author.Needs.{needs}
 use denote.Ref.{now}
-use lib.ListN.{length}
 use Rattle.text.specs.Numerals.{hex}
 use Rattle.text.proofs.Numerals.{length-hex}
 use Rattle.text.proofs.Stores.{wrote-both}

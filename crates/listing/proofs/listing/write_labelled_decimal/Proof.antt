@@ -1,7 +1,6 @@
 -- The label, then the number.
 use borrow.Author.Needs.{needs}
 use denote.Ref.{now}
-use lib.ListN.{length}
 use Rattle.text.specs.Numerals.{decimal}
 use Rattle.text.proofs.Stores.{wrote-both}
 use Rattle.listing.proofs.listing.write_labelled_decimal.Statement.{statement}

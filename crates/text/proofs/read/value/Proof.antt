@@ -1,9 +1,8 @@
 -- The number so far and the bytes that are left make the whole, and one digit more still fits.
-use Prim.Native.Nat.{_+_, _-_, _*_, _^_, _≤_, _<_}
+use Prim.Native.Nat.{_+_, _-_, _*_, _^_, _<_}
 use native.Mathlib.Omega.{arith}
-use mathlib.Core.Path.{_≡_}
 use borrow.Author.Needs.{needs}
-use lib.ListN.{length, getD}
+use lib.ListN.{length}
 use Rattle.text.specs.Parsed.{digit-value}
 use Rattle.text.proofs.Reading.{Read, none-read, one-read, not-read, all-read, one-fits}
 use Rattle.text.proofs.read.value.Statement.{statement}
