@@ -1,4 +1,5 @@
-// Runs tapes of capacity 0, 1, 65,535 and 65,536 on real arrays and writes down what the calls answer: the row of document 01's edges that is not in the proved table. Then the refusals that no other program meets.
+// Runs tapes of capacity 0, 1, 65,535 and 65,536 on real arrays and writes down what the calls answer: the row of
+// document 01's edges that is not in the proved table. Then the refusals that no other program meets.
 mod filling;
 mod refusals;
 mod report;

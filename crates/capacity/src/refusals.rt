@@ -1,4 +1,5 @@
-// Refusals 2, 6, 7 and 8, each met by a call on a tape of two nodes, and whether the call left what it is lent as it was.
+// Refusals 2, 6, 7 and 8, each met by a call on a tape of two nodes, and whether the call left what it is lent as it
+// was.
 use crate::report;
 use dual::passes::propagate_to_mark;
 use expr::ADD;
@@ -77,7 +78,8 @@ fn recording(call: &[u8], tape: Tape, op: u8) {
     report::kept(N, call, kept);
 }
 
-// Walks the whole tape, whose second node has so many edges, the last of them to `to`. A walk is lent the adjoints alone to write.
+// Walks the whole tape, whose second node has so many edges, the last of them to `to`. A walk is lent the adjoints
+// alone to write.
 fn walking(call: &[u8], edges: u8, to: u16) {
     let value = [3.0; N];
     let mut adjoint = [0.5; N];

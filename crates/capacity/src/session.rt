@@ -1,4 +1,5 @@
-// One session: a tape is filled, rewound and stopped, and what is answered on the way is written down, the leaves that fill it in one line.
+// One session: a tape is filled, rewound and stopped, and what is answered on the way is written down, the leaves that
+// fill it in one line.
 use crate::filling;
 use crate::filling::Filled;
 use crate::filling::TOO_MANY;
@@ -63,7 +64,8 @@ fn wind_down(
     probe(tape, value, adjoint, serial, count, child, partial, first);
 }
 
-// One more leaf, and then the first leaf's handle as an operand. On the full tape it is live, so that only the room is missing: without that, a lookup that finds nothing would pass.
+// One more leaf, and then the first leaf's handle as an operand. On the full tape it is live, so that only the room is
+// missing: without that, a lookup that finds nothing would pass.
 fn probe(
     tape: Tape,
     value: &mut [f64],

@@ -1,4 +1,5 @@
--- Wrong answers that the promises of crate `text` rule out, two or more for each function. `Tried` says what a row is; `TextTried` is proved in proofs/Text.antt, by computation.
+-- Wrong answers that the promises of crate `text` rule out, two or more for each function. `Tried` says what a row is;
+-- `TextTried` is proved in proofs/Text.antt, by computation.
 use Prim.Native.Nat.{ℕ}
 use mathlib.Core.Path.{_≡_}
 use mathlib.Core.Bool.{true}

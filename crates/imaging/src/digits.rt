@@ -70,7 +70,8 @@ pub enum Rounded {
     OutOfRange,
 }
 
-// How many parts, of which scale make one, are nearest to x. What is negative or too large for 64 bits is out of range, and so is NaN.
+// How many parts, of which scale make one, are nearest to x. What is negative or too large for 64 bits is out of range,
+// and so is NaN.
 pub(crate) fn round(x: f64, scale: f64) -> Rounded
     ensures { λ r. ⌜ r ≡ rounded x scale ⌝ }
 {

@@ -1,4 +1,5 @@
-// The drive model, and how an operation is recorded. What is recorded stands in tables, so that one call records it all.
+// The drive model, and how an operation is recorded. What is recorded stands in tables, so that one call records it
+// all.
 use expr::ADD;
 use expr::DIVIDE;
 use expr::LEAF;
@@ -25,7 +26,8 @@ pub struct Operation {
     pub right: Operand,
 }
 
-// What was recorded last, as an operand and as a number, and the tape after it; or the first refusal, after which nothing is recorded.
+// What was recorded last, as an operand and as a number, and the tape after it; or the first refusal, after which
+// nothing is recorded.
 pub struct Made {
     pub tape: Tape,
     pub x: Operand,
@@ -33,7 +35,8 @@ pub struct Made {
     pub refusal: u8,
 }
 
-// The model's nodes: the two parameters, the time of a turn relative to nominal, and how long a cell is as this drive reads it.
+// The model's nodes: the two parameters, the time of a turn relative to nominal, and how long a cell is as this drive
+// reads it.
 pub struct Model {
     pub speed: Operand,
     pub cell: Operand,

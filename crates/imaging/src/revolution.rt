@@ -25,7 +25,8 @@ const CLIP: f64 = 0.0625;
 
 const MOST_CELLS: u32 = 8;
 
-// A part of a misfit: the time of a turn as modelled and as measured, with its weight; or the sum so far, a cell as this drive reads it, an interval in nominal cells and the cells in it.
+// A part of a misfit: the time of a turn as modelled and as measured, with its weight; or the sum so far, a cell as
+// this drive reads it, an interval in nominal cells and the cells in it.
 enum Part {
     Index(Operand, f64, f64),
     Interval(Operand, Operand, f64, f64),

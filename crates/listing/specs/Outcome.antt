@@ -18,7 +18,8 @@ abbrev pub outcome : Listed → Machine floats → Answer floats × Machine floa
 outcome (Written n) M = (counted n, M)
 outcome (Refused r) M = (refused r, M)
 
--- the answer, and the lent bytes after the call: the listing and, behind it, what stood there; at a refusal as they were
+-- the answer, and the lent bytes after the call: the listing and, behind it, what stood there; at a refusal as they
+-- were
 abbrev pub listed : Machine floats → List ℕ → (Answer floats × Machine floats) × List ℕ
 listed M lent =
     let x = step (list (length lent)) M in

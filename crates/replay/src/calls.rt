@@ -9,7 +9,8 @@ use text::read_digits;
 use text::read_hex_start;
 ghost use Prim.Native.Nat.{_≤_};
 
-// The letters that words begin with: a node, a value that is detached, a number of edges. The word of a float or a digest begins with none.
+// The letters that words begin with: a node, a value that is detached, a number of edges. The word of a float or a
+// digest begins with none.
 pub const NODE: u8 = b'n';
 
 pub const DETACHED: u8 = b'p';

@@ -26,7 +26,8 @@ use tape::Operand;
 use tape::Refusal;
 use tape::Tape;
 
-// What the port answered, the node that it recorded, the tape after the call and, where a sequence has them, the digests of all values and adjoints on it.
+// What the port answered, the node that it recorded, the tape after the call and, where a sequence has them, the
+// digests of all values and adjoints on it.
 pub struct Heard {
     pub answer: Said,
     pub node: Handle,

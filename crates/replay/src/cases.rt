@@ -16,7 +16,8 @@ pub(crate) fn replay(list: &[u8], subject: Subject, case: &[u8], before: Tally) 
     }
 }
 
-// Whether the byte ends a case, of which `pending` bytes are there: a line feed ends a line, and an empty line a sequence.
+// Whether the byte ends a case, of which `pending` bytes are there: a line feed ends a line, and an empty line a
+// sequence.
 pub(crate) fn is_end(subject: Subject, byte: u8, case: &[u8], pending: usize) -> bool {
     if byte != b'\n' {
         return false;

@@ -1,4 +1,5 @@
-// What a list has cases of, and the names of its kinds of cases, each with a space after it. A kind is the place of its name.
+// What a list has cases of, and the names of its kinds of cases, each with a space after it. A kind is the place of its
+// name.
 use crate::tape_kinds;
 use crate::tape_kinds::KINDS;
 use crate::words::find;
@@ -18,7 +19,8 @@ pub enum Subject {
     Stale,
 }
 
-// Whether a list tells how many cases of a kind it has. A list from before operations 8 and 9 were compared has none of them, and does not tell so.
+// Whether a list tells how many cases of a kind it has. A list from before operations 8 and 9 were compared has none of
+// them, and does not tell so.
 pub(crate) fn is_told(subject: Subject, kind: usize, cases: u64) -> bool {
     match subject {
         Subject::Forward(_) => true,

@@ -37,7 +37,8 @@ fn replay_file(list: &[u8], subject: Subject, file: i32) {
     report::summary(list, subject, tally);
 }
 
-// A proved loop has to end, and nothing says that a file does. So the loop counts its turns down, from a number that no run uses up.
+// A proved loop has to end, and nothing says that a file does. So the loop counts its turns down, from a number that no
+// run uses up.
 fn replay_all(list: &[u8], subject: Subject, file: i32, case: &mut [u8]) -> Tally {
     let mut space = io::large_buffer();
     let piece: &mut [u8] = &mut space;

@@ -15,7 +15,8 @@ const CAPACITY: usize = 4;
 
 const SLOTS: usize = MOST_EDGES * CAPACITY;
 
-// What the arrays hold at first, no count or child that a node here can have and an unlikely float, so that what the port leaves unwritten is seen.
+// What the arrays hold at first, no count or child that a node here can have and an unlikely float, so that what the
+// port leaves unwritten is seen.
 pub const NO_COUNT: u8 = 0xff;
 
 pub const NO_CHILD: u16 = 0xffff;

@@ -40,7 +40,8 @@ struct Run {
     tape: Tape,
     // Whether another call may come.
     going: bool,
-    // Whether a line differs or is no call. What comes after it is left out, since the two tapes may be unlike from there on.
+    // Whether a line differs or is no call. What comes after it is left out, since the two tapes may be unlike from
+    // there on.
     broken: bool,
     tally: Tally,
 }

@@ -129,7 +129,8 @@ fn judge(
     tally.next_case(kind, false, apart)
 }
 
-// The node that the line tells after the words that are given. An operand on the tape has the index at which it stands there, the left before the right.
+// The node that the line tells after the words that are given. An operand on the tape has the index at which it stands
+// there, the left before the right.
 fn node_of(left: bool, right: bool, given: usize, partials: usize, case: &Case) -> Node
     requires { ⌜ (given ≤ 5) × (partials ≤ 2) ⌝ }
 {
@@ -151,7 +152,8 @@ fn child(there: bool, index: u16) -> u16 {
     if there { index } else { NO_CHILD }
 }
 
-// Where the Rust's value departs from the rule, or may: max and min of a NaN on the right alone, and of two zeros of unlike sign (docs/DIFFERENCES.md).
+// Where the Rust's value departs from the rule, or may: max and min of a NaN on the right alone, and of two zeros of
+// unlike sign (docs/DIFFERENCES.md).
 fn is_apart(kind: usize, left: u64, right: u64) -> bool {
     let right_alone = (right == NAN) & (left != NAN);
     let zeros = is_zero(left) & is_zero(right) & (left != right);

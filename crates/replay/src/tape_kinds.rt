@@ -1,4 +1,5 @@
-// The kinds of cases of the tape, in the order of their names: the operations by their numbers, then the other lines of a sequence.
+// The kinds of cases of the tape, in the order of their names: the operations by their numbers, then the other lines of
+// a sequence.
 ghost use Prim.Native.Nat.{_≤_};
 
 const LEAF: usize = expr::LEAF as usize;
@@ -69,7 +70,8 @@ pub(crate) fn is_supplied(kind: usize) -> bool {
     (kind == SUPPLIED_ONE) | (kind == SUPPLIED_TWO)
 }
 
-// Whether an operation answers one of its operands, max or min: at some of these its value is left out of the comparison.
+// Whether an operation answers one of its operands, max or min: at some of these its value is left out of the
+// comparison.
 pub(crate) fn chooses(kind: usize) -> bool {
     (kind == MAX) | (kind == MIN)
 }

@@ -103,7 +103,8 @@ pub(crate) fn is_same(case: &Case, from: usize, got: &Answer, count: usize) -> b
     true
 }
 
-// One word for the floats below `length`: each is put in by an exclusive or, and then the bits are stirred as the generator xorshift64 does it.
+// One word for the floats below `length`: each is put in by an exclusive or, and then the bits are stirred as the
+// generator xorshift64 does it.
 pub(crate) fn digest(floats: &[f64], length: usize) -> u64 {
     let mut sum = 0x9e37_79b9_7f4a_7c15;
     for i in 0..floats.len() {

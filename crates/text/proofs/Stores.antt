@@ -1,4 +1,5 @@
--- Runs of stores: two that follow each other are one, and the last of a run may be made first. Where there is room, a run is what a writer leaves.
+-- Runs of stores: two that follow each other are one, and the last of a run may be made first. Where there is room, a
+-- run is what a writer leaves.
 use Prim.Native.Nat.{ℕ, suc, _+_, _≤_}
 use native.Mathlib.Nat.{add-zero}
 use native.Mathlib.Omega.{arith}

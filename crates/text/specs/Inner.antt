@@ -1,4 +1,5 @@
--- What private functions promise, here and in the crates that write texts of several parts. Only proofs use it; every public promise speaks of `written`.
+-- What private functions promise, here and in the crates that write texts of several parts. Only proofs use it; every
+-- public promise speaks of `written`.
 use Prim.Native.Nat.{ℕ, _+_}
 use mathlib.Core.Path.{_≡_}
 use mathlib.Core.List.{List}

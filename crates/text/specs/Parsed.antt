@@ -26,7 +26,8 @@ read-hex-start text = read-hex (text ++ drop (length text) (replicate 16 48))
 
 -- 1 to `most` decimal digits, and of 19 at most, which 64 bits hold
 abbrev pub read-digits : ℕ → List ℕ → Parsed
-read-digits most text = cond (leb 1 (length text) && leb (length text) most && leb (length text) 19) (read-on 10 0 text) NotANumber
+read-digits most text =
+    cond (leb 1 (length text) && leb (length text) most && leb (length text) 19) (read-on 10 0 text) NotANumber
 
 -- a zero with something after it
 abbrev pub leading-zero : List ℕ → Bool

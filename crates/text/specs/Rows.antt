@@ -1,4 +1,5 @@
--- What the rules come to: worked rows, proved in proofs/Rows.antt by computation, and that a number which is written is read back, proved in proofs/ReadBack.antt.
+-- What the rules come to: worked rows, proved in proofs/Rows.antt by computation, and that a number which is written is
+-- read back, proved in proofs/ReadBack.antt.
 use Prim.Native.Nat.{ℕ, _^_, _≤_, _<_}
 use mathlib.Core.Path.{_≡_}
 use mathlib.Core.List.{List, [], _∷_}

@@ -1,4 +1,5 @@
-// Texts into lent bytes. Each writer answers the place behind what it wrote; where there is no room for all of it, it writes nothing and answers `at`.
+// Texts into lent bytes. Each writer answers the place behind what it wrote; where there is no room for all of it, it
+// writes nothing and answers `at`.
 ghost use Prim.Native.Nat.{_+_, _≤_, _<_};
 ghost use mathlib.Core.Path.{_≡_};
 ghost use lib.Dec.{leb};

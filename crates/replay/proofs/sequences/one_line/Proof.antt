@@ -1,4 +1,5 @@
--- `one_line` leaves every lent array as long as it was. What the call kept of four of them lies too far back for `search`.
+-- `one_line` leaves every lent array as long as it was. What the call kept of four of them lies too far back for
+-- `search`.
 use borrow.Author.Needs.{needs}
 use native.Mathlib.Omega.{arith}
 use Rattle.replay.proofs.sequences.one_line.Statement.{statement}
