@@ -79,7 +79,8 @@ handle-shown (some h) = h .index ∷ h .serial ∷ []
 abbrev pub shown : Answer floats × Machine floats → List ℕ
 shown (a, M) =
     a .number ∷ bits (a .value) ∷ a .count ∷ handle-shown (a .handle) ++ state-shown (M .state)
-    ++ map bits (M .lent .value) ++ map bits (M .lent .adjoint) ++ M .lent .serial ++ M .lent .count ++ M .lent .child ++ map bits (M .lent .partial)
+    ++ map bits (M .lent .value) ++ map bits (M .lent .adjoint) ++ M .lent .serial ++ M .lent .count ++ M .lent .child
+    ++ map bits (M .lent .partial)
 
 abbrev pub a-step : Answer floats × Machine floats → Answer floats × Machine floats → Tried
 a-step = tried shown
@@ -183,7 +184,8 @@ usable-tried = a-usable (usable-as (state 1 0 true 10) (7 ∷ 9 ∷ []) (handle 
 abbrev pub lengths-of-tried : List Tried
 lengths-of-tried =
     a-size (lengths longer) (record { value = 4; adjoint = 4; serial = 4; count = 4; child = 8; partial = 8 })
-    ∷ a-size (lengths (sevens 4)) (record { value = 4; adjoint = 4; serial = 4; count = 4; child = 4; partial = 8 }) ∷ []
+    ∷ a-size (lengths (sevens 4)) (record { value = 4; adjoint = 4; serial = 4; count = 4; child = 4; partial = 8 })
+    ∷ []
 
 -- new: an active tape; a first serial of 0
 abbrev pub new-tried : List Tried
@@ -318,7 +320,8 @@ is-live-tried = a-step (step (is-live stale) (marked 2)) (refused Refusal·NotLi
 -- reset_adjoints: adjoints past the length cleared; -0.0 for +0.0
 abbrev pub reset-adjoints-tried : List Tried
 reset-adjoints-tried = a-step (step clear (marked 2)) (done, with-adjoints (marked 2) (replicate 5 nought))
-    ∷ a-step (step clear (marked 2)) (done, with-adjoints (marked 2) (replicate 4 (minus nought) ++ (float 7 ∷ []))) ∷ []
+    ∷ a-step (step clear (marked 2)) (done, with-adjoints (marked 2) (replicate 4 (minus nought) ++ (float 7 ∷ [])))
+    ∷ []
 
 -- backward: a walk from the end, wherever the root stands; the adjoints cleared first
 abbrev pub backward-tried : List Tried
@@ -380,7 +383,8 @@ passes =
 -- each call that changes the machine
 abbrev pub changes : List (Call floats × Machine floats)
 changes =
-    map (λ m. (move m, kept 3 1 true)) (start ∷ stop ∷ set-mark ∷ reset-mark ∷ rewind-to-mark ∷ rewind-to-init ∷ []) ++ ((binary MULTIPLY x0 x1, two) ∷ (clear, marked 2) ∷ passes)
+    map (λ m. (move m, kept 3 1 true)) (start ∷ stop ∷ set-mark ∷ reset-mark ∷ rewind-to-mark ∷ rewind-to-init ∷ [])
+    ++ ((binary MULTIPLY x0 x1, two) ∷ (clear, marked 2) ∷ passes)
 
 -- and those that read it
 abbrev pub readings : List (Call floats × Machine floats)
@@ -404,12 +408,14 @@ nought-or-one-tried = each-adjoint nought ++ each-adjoint one
 
 abbrev pub calls-tried : List Tried
 calls-tried =
-    number-tried ++ lookup-tried ++ usable-tried ++ lengths-of-tried ++ new-tried ++ start-recording-tried ++ stop-recording-tried
+    number-tried ++ lookup-tried ++ usable-tried ++ lengths-of-tried ++ new-tried ++ start-recording-tried
+    ++ stop-recording-tried
     ++ set-mark-tried ++ reset-mark-tried ++ rewind-to-mark-tried ++ rewind-to-init-tried ++ admit-tried
     ++ record-tried ++ new-leaf-tried ++ put-on-tape-tried ++ add-tried ++ subtract-tried
     ++ multiply-tried ++ divide-tried ++ max-tried ++ min-tried ++ negate-tried
     ++ supplied-one-tried ++ supplied-two-tried ++ value-tried ++ adjoint-tried ++ is-live-tried
-    ++ reset-adjoints-tried ++ backward-tried ++ backward-to-mark-tried ++ backward-mark-to-start-tried ++ propagate-to-mark-tried
+    ++ reset-adjoints-tried ++ backward-tried ++ backward-to-mark-tried ++ backward-mark-to-start-tried
+    ++ propagate-to-mark-tried
     ++ propagate-mark-to-start-tried ++ list-tried ++ bits-of-tried ++ refuses-tried ++ untouched-tried
     ++ nought-or-one-tried
 

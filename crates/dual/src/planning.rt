@@ -82,7 +82,9 @@ pub(crate) fn plan(
 
 // The root, if the pass is let in.
 fn let_in(which: Pass, tape: Tape, lent: Lengths, serial: &[u64]) -> Found
-    ensures { λ x. ⌜ x ≡ root-if (admitted (admission caller.Passing lent tape)) (found-root tape (now (serial .entry)) (Calls·plan (pass-of which) tape .root)) ⌝ }
+    ensures { λ x. ⌜
+        x
+        ≡ root-if (admitted (admission caller.Passing lent tape)) (found-root tape (now (serial .entry)) (Calls·plan (pass-of which) tape .root)) ⌝ }
 {
     match tape.admit(Caller::Passing, lent) {
         Admission::Refused(refusal) => Found::Refused(refusal),
@@ -169,7 +171,9 @@ fn mark_to_start(tape: Tape) -> Span
 // The plan, unless a node of its range cannot be walked.
 fn if_sound(root: Root, span: Span, count: &[u8], child: &[u16]) -> Planned
     requires { ⌜ Within span (now count) (now child) ⌝ }
-    ensures { λ x. ⌜ x ≡ cond (all-sound (now (count .entry)) (now (child .entry)) span) (Planned.Walk root span) (Planned.Refused Refusal.UnsoundEdge) ⌝ }
+    ensures { λ x. ⌜
+        x
+        ≡ cond (all-sound (now (count .entry)) (now (child .entry)) span) (Planned.Walk root span) (Planned.Refused Refusal.UnsoundEdge) ⌝ }
 {
     if is_sound_between(span, count, child) {
         return Planned::Walk(root, span);

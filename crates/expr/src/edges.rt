@@ -34,7 +34,8 @@ impl Edges {
     // One edge more, if the operand stands on the tape.
     pub(crate) fn with(self, x: Operand, weight: f64) -> Edges
         requires { ⌜ (self .count < most-edges) × Small x ⌝ }
-        ensures { λ e. ⌜ (edges-in e ≡ edges-in self ++ edge (operand x) (some weight)) × (e .count ≤ self .count + 1) ⌝ }
+        ensures { λ e. ⌜
+            (edges-in e ≡ edges-in self ++ edge (operand x) (some weight)) × (e .count ≤ self .count + 1) ⌝ }
     {
         match x {
             Operand::Number(_) => self,
@@ -44,7 +45,8 @@ impl Edges {
 
     fn push(self, to: u16, by: f64) -> Edges
         requires { ⌜ self .count < most-edges ⌝ }
-        ensures { λ x. ⌜ (edges-in x ≡ edges-in self ++ (record { child = to; weight = by } ∷ [])) × (x .count ≡ self .count + 1) ⌝ }
+        ensures { λ x. ⌜
+            (edges-in x ≡ edges-in self ++ (record { child = to; weight = by } ∷ [])) × (x .count ≡ self .count + 1) ⌝ }
     {
         let n = self.count;
         let mut child = self.child;
@@ -63,7 +65,9 @@ impl Edges {
     pub(crate) fn write(self, slot: usize, child: &mut [u16], partial: &mut [f64])
         requires { ⌜ (self .count ≤ most-edges) × (slot + most-edges ≤ length (now child)) × (slot + most-edges ≤ length (now partial)) ⌝ }
         ensures { λ _. ⌜ now (child .exit) ≡ sets (now (child .entry)) slot (map (λ e. e .child) (edges-in self)) ⌝ }
-        ensures { λ _. ⌜ now (partial .exit) ≡ sets (now (partial .entry)) slot (map (λ e. e .weight) (edges-in self)) ⌝ }
+        ensures { λ _. ⌜
+            now (partial .exit)
+            ≡ sets (now (partial .entry)) slot (map (λ e. e .weight) (edges-in self)) ⌝ }
     {
         let children = self.child;
         let weights = self.weight;

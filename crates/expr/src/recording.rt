@@ -116,7 +116,8 @@ fn decide(
     right: Operand,
     supplied: Supplied,
 ) -> Decision
-    ensures { λ x. ⌜ Decides x (recording-refusal tape lent (now (serial .entry)) (row-for (now (value .entry)) op left right supplied) left right) (row-for (now (value .entry)) op left right supplied) left right ⌝ }
+    ensures { λ x. ⌜
+        Decides x (recording-refusal tape lent (now (serial .entry)) (row-for (now (value .entry)) op left right supplied) left right) (row-for (now (value .entry)) op left right supplied) left right ⌝ }
 {
     match tape.admit(Caller::Recording, lent) {
         Admission::Refused(refusal) => refused(refusal),
@@ -142,7 +143,9 @@ fn usable(x: Operand, tape: Tape, serial: &[u64]) -> Usable
 
 // The left operand's refusal comes first.
 fn usable_both(left: Operand, right: Operand, tape: Tape, serial: &[u64]) -> Usable
-    ensures { λ u. ⌜ u ≡ both-usable (usable-operand tape (now (serial .entry)) left) (usable-operand tape (now (serial .entry)) right) ⌝ }
+    ensures { λ u. ⌜
+        u
+        ≡ both-usable (usable-operand tape (now (serial .entry)) left) (usable-operand tape (now (serial .entry)) right) ⌝ }
 {
     match usable(left, tape, serial) {
         Usable::Refused(refusal) => Usable::Refused(refusal),
@@ -174,7 +177,8 @@ fn value_at(i: usize, value: &[f64]) -> f64
 // The node that a row makes of its operands.
 fn make(tape: Tape, serial: &[u64], row: Row, left: Operand, right: Operand) -> Decision
     requires { ⌜ tape .length ≤ most-nodes ⌝ }
-    ensures { λ x. ⌜ Decides x (row-refusal row (usable-operand tape (now (serial .entry)) left) (usable-operand tape (now (serial .entry)) right)) row left right ⌝ }
+    ensures { λ x. ⌜
+        Decides x (row-refusal row (usable-operand tape (now (serial .entry)) left) (usable-operand tape (now (serial .entry)) right)) row left right ⌝ }
 {
     match row {
         Row::Unknown => refused(Refusal::UnknownOperation),

@@ -110,7 +110,8 @@ fn write_lines(out: &mut [u8], at: usize, nodes: usize, value: &[f64], adjoint: 
     requires { ⌜ at + length (lines (shown (now value) (now adjoint)) (indexes 0 nodes)) ≤ length (now out) ⌝ }
     requires { ⌜ nodes ≤ length (now value) ⌝ }
     requires { ⌜ nodes ≤ length (now adjoint) ⌝ }
-    ensures { λ end. ⌜ Wrote (now (out .entry)) at (lines (shown (now (value .entry)) (now (adjoint .entry))) (indexes 0 nodes)) (now (out .exit)) end ⌝ }
+    ensures { λ end. ⌜
+        Wrote (now (out .entry)) at (lines (shown (now (value .entry)) (now (adjoint .entry))) (indexes 0 nodes)) (now (out .exit)) end ⌝ }
 {
     let mut end = at;
     let mut i = 0;
@@ -125,7 +126,8 @@ fn write_line(out: &mut [u8], at: usize, i: usize, value: &[f64], adjoint: &[f64
     requires { ⌜ at + length (line (shown (now value) (now adjoint)) i) ≤ length (now out) ⌝ }
     requires { ⌜ i < length (now value) ⌝ }
     requires { ⌜ i < length (now adjoint) ⌝ }
-    ensures { λ end. ⌜ Wrote (now (out .entry)) at (line (shown (now (value .entry)) (now (adjoint .entry))) i) (now (out .exit)) end ⌝ }
+    ensures { λ end. ⌜
+        Wrote (now (out .entry)) at (line (shown (now (value .entry)) (now (adjoint .entry))) i) (now (out .exit)) end ⌝ }
 {
     let at_value = write_labelled_decimal(out, at, b"node=", i);
     let at_adjoint = write_labelled_bits(out, at_value, b" val=", value[i]);
@@ -143,7 +145,8 @@ fn write_labelled_decimal(out: &mut [u8], at: usize, label: &[u8], n: usize) -> 
 
 fn write_labelled_bits(out: &mut [u8], at: usize, label: &[u8], x: f64) -> usize
     requires { ⌜ at + length (now label) + 16 ≤ length (now out) ⌝ }
-    ensures { λ end. ⌜ Wrote (now (out .entry)) at (now (label .entry) ++ hex (toBits binary64 x)) (now (out .exit)) end ⌝ }
+    ensures { λ end. ⌜
+        Wrote (now (out .entry)) at (now (label .entry) ++ hex (toBits binary64 x)) (now (out .exit)) end ⌝ }
 {
     let at_bits = write_text(out, at, label);
     write_hex(out, at_bits, bits_of(x))

@@ -103,7 +103,8 @@ pub record Example : Type 0 where
 -- The last two share a node of the model, and where they trade places the adjoints are 18 and 3: `Apart` is needed
 pub record Overlapping : Type 0 where
   pub runs : RunsAs swapped (calls swapped) before
-  pub adjoints : bits (model-adjoints swapped (calls swapped) before) ≡ 0x4032_0000_0000_0000 ∷ 0x4008_0000_0000_0000 ∷ []
+  pub adjoints : bits (model-adjoints swapped (calls swapped) before) ≡ 0x4032_0000_0000_0000 ∷ 0x4008_0000_0000_0000
+      ∷ []
   pub resolves : resolve three ≡ with-both (resolve three .model) (back 1 (float 3) ∷ []) (back 1 high) (back 1 (neg high)) []
   pub swapped-means : resolve swapped ≡ with-both (resolve three .model) (back 1 (float 3) ∷ []) (back 1 (neg high)) (back 1 high) []
   pub changed : model-adjoints three three-calls before ≡ model-adjoints swapped (calls swapped) before → ⊥

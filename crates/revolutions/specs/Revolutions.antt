@@ -47,7 +47,9 @@ revolution-calls (r ∷ rs) =
 -- start, record the model, set the mark, clear; the revolutions; at last the walk from the mark to the start
 abbrev pub calls : {N : Numbers} → Session N → List (Call N)
 calls s =
-    move start ∷ recordings (s .model) ++ (move set-mark ∷ clear ∷ revolution-calls (s .revolutions) ++ (pass propagate-mark-to-start ∷ []))
+    move start
+    ∷ recordings (s .model)
+    ++ (move set-mark ∷ clear ∷ revolution-calls (s .revolutions) ++ (pass propagate-mark-to-start ∷ []))
 
 -- reads and listings, which may stand anywhere between
 abbrev pub reads : {N : Numbers} → Call N → Bool

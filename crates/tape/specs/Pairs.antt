@@ -68,18 +68,29 @@ Refused c M r = step c M .0 ≡ refused r
 
 -- Proved in proofs/Pairs.antt
 pub record Order : Type 0 where
-  pub one-and-two : Refused (unknown (node-at 0)) (misshapen roomy) Misshapen × Refused (unknown (node-at 0)) (on roomy) UnknownOperation
+  pub one-and-two : Refused (unknown (node-at 0)) (misshapen roomy) Misshapen
+      × Refused (unknown (node-at 0)) (on roomy) UnknownOperation
   pub one-and-three : Refused (value-of stale) (misshapen roomy) Misshapen × Refused (value-of stale) (on roomy) NotLive
-  pub one-and-four : Refused (adjoint-of a-number) (misshapen roomy) Misshapen × Refused (adjoint-of a-number) (on roomy) Detached
+  pub one-and-four : Refused (adjoint-of a-number) (misshapen roomy) Misshapen
+      × Refused (adjoint-of a-number) (on roomy) Detached
   pub one-and-five : Refused (leaf (float 5)) (misshapen full) Misshapen × Refused (leaf (float 5)) (on full) Full
-  pub one-and-six : Refused (leaf (float 5)) (machine (state 2 3 true last-serial) roomy) Misshapen × Refused (leaf (float 5)) (spent roomy) SerialsSpent
-  pub one-and-seven : Refused (pass (backward (node-at 1))) (misshapen unsound) Misshapen × Refused (pass (backward (node-at 1))) (on unsound) UnsoundEdge
+  pub one-and-six : Refused (leaf (float 5)) (machine (state 2 3 true last-serial) roomy) Misshapen
+      × Refused (leaf (float 5)) (spent roomy) SerialsSpent
+  pub one-and-seven : Refused (pass (backward (node-at 1))) (misshapen unsound) Misshapen
+      × Refused (pass (backward (node-at 1))) (on unsound) UnsoundEdge
   pub one-and-eight : Refused (list 0) (misshapen roomy) Misshapen × Refused (list 0) (on roomy) ListingTooLong
-  pub two-and-three : Refused (unknown stale) (on roomy) UnknownOperation × Refused (binary ADD stale stale) (on roomy) NotLive
-  pub two-and-five : Refused (unknown (node-at 0)) (on full) UnknownOperation × Refused (binary ADD (node-at 0) (node-at 0)) (on full) Full
-  pub two-and-six : Refused (unknown (node-at 0)) (spent roomy) UnknownOperation × Refused (binary ADD (node-at 0) (node-at 0)) (spent roomy) SerialsSpent
-  pub three-and-five : Refused (binary NEGATE stale stale) (on full) NotLive × Refused (binary NEGATE (node-at 0) stale) (on full) Full
-  pub three-and-six : Refused (binary NEGATE stale stale) (spent roomy) NotLive × Refused (binary NEGATE (node-at 0) stale) (spent roomy) SerialsSpent
-  pub three-and-seven : Refused (pass (backward stale)) (on unsound) NotLive × Refused (pass (backward (node-at 1))) (on unsound) UnsoundEdge
-  pub four-and-seven : Refused (pass (backward a-number)) (on unsound) Detached × Refused (pass propagate-to-mark) (on unsound) UnsoundEdge
+  pub two-and-three : Refused (unknown stale) (on roomy) UnknownOperation
+      × Refused (binary ADD stale stale) (on roomy) NotLive
+  pub two-and-five : Refused (unknown (node-at 0)) (on full) UnknownOperation
+      × Refused (binary ADD (node-at 0) (node-at 0)) (on full) Full
+  pub two-and-six : Refused (unknown (node-at 0)) (spent roomy) UnknownOperation
+      × Refused (binary ADD (node-at 0) (node-at 0)) (spent roomy) SerialsSpent
+  pub three-and-five : Refused (binary NEGATE stale stale) (on full) NotLive
+      × Refused (binary NEGATE (node-at 0) stale) (on full) Full
+  pub three-and-six : Refused (binary NEGATE stale stale) (spent roomy) NotLive
+      × Refused (binary NEGATE (node-at 0) stale) (spent roomy) SerialsSpent
+  pub three-and-seven : Refused (pass (backward stale)) (on unsound) NotLive
+      × Refused (pass (backward (node-at 1))) (on unsound) UnsoundEdge
+  pub four-and-seven : Refused (pass (backward a-number)) (on unsound) Detached
+      × Refused (pass propagate-to-mark) (on unsound) UnsoundEdge
   pub five-and-six : Refused (leaf (float 5)) (spent full) Full × Refused (leaf (float 5)) (spent roomy) SerialsSpent

@@ -105,11 +105,13 @@ weighed-twice left right p q = operate SUPPLIED-TWO left right (given (float 1) 
 -- the listing's four nodes: leaves 3 and 2, their product, the product plus the first leaf, and backward from the last
 abbrev pub four-calls : List (Call floats)
 four-calls =
-    move start ∷ leaf (float 3) ∷ leaf (float 2) ∷ times (node-at 0) (node-at 1) ∷ plus (node-at 2) (node-at 0) ∷ pass (backward (node-at 3)) ∷ []
+    move start ∷ leaf (float 3) ∷ leaf (float 2) ∷ times (node-at 0) (node-at 1) ∷ plus (node-at 2) (node-at 0)
+    ∷ pass (backward (node-at 3)) ∷ []
 
 abbrev pub four-answers : List (Answer floats)
 four-answers =
-    done ∷ recorded (float 3) (first 0) ∷ recorded (float 2) (first 1) ∷ recorded (float 6) (first 2) ∷ recorded (float 9) (first 3) ∷ counted 4 ∷ []
+    done ∷ recorded (float 3) (first 0) ∷ recorded (float 2) (first 1) ∷ recorded (float 6) (first 2)
+    ∷ recorded (float 9) (first 3) ∷ counted 4 ∷ []
 
 abbrev pub four-adjoints : Sight
 four-adjoints = adjoints (float 3 ∷ float 3 ∷ float 1 ∷ float 1 ∷ float 7 ∷ [])
@@ -200,11 +202,15 @@ P8 =
     record {
       before = fresh (sevens 2);
       calls =
-          move start ∷ leaf (float 3) ∷ move set-mark ∷ plus (node-at 0) (node-at 0) ∷ pass (backward old) ∷ is-live old ∷ move rewind-to-mark ∷ leaf (float 2)
-          ∷ adjoint-of new ∷ plus old (node-at 0) ∷ pass (backward old) ∷ value-of old ∷ adjoint-of old ∷ is-live old ∷ is-live new ∷ [];
+          move start ∷ leaf (float 3) ∷ move set-mark ∷ plus (node-at 0) (node-at 0) ∷ pass (backward old) ∷ is-live old
+          ∷ move rewind-to-mark ∷ leaf (float 2)
+          ∷ adjoint-of new ∷ plus old (node-at 0) ∷ pass (backward old) ∷ value-of old ∷ adjoint-of old ∷ is-live old
+          ∷ is-live new ∷ [];
       answers =
-          done ∷ recorded (float 3) (first 0) ∷ done ∷ recorded (float 6) (handle 1 2) ∷ counted 2 ∷ counted 1 ∷ done ∷ recorded (float 2) (handle 1 3)
-          ∷ read-value (float 0) ∷ refused NotLive ∷ refused NotLive ∷ refused NotLive ∷ refused NotLive ∷ counted 0 ∷ counted 1 ∷ [];
+          done ∷ recorded (float 3) (first 0) ∷ done ∷ recorded (float 6) (handle 1 2) ∷ counted 2 ∷ counted 1 ∷ done
+          ∷ recorded (float 2) (handle 1 3)
+          ∷ read-value (float 0) ∷ refused NotLive ∷ refused NotLive ∷ refused NotLive ∷ refused NotLive ∷ counted 0
+          ∷ counted 1 ∷ [];
       sights = adjoints (float 2 ∷ float 0 ∷ []) ∷ [];
     }
 
@@ -236,7 +242,8 @@ zero-adjoint = record {
   calls =
       move start ∷ leaf (float 3) ∷ weighed (node-at 0) (inf false) ∷ leaf (float 2) ∷ pass (backward (node-at 2)) ∷ [];
   answers =
-      done ∷ recorded (float 3) (first 0) ∷ recorded (float 1) (first 1) ∷ recorded (float 2) (first 2) ∷ counted 1 ∷ [];
+      done ∷ recorded (float 3) (first 0) ∷ recorded (float 1) (first 1) ∷ recorded (float 2) (first 2) ∷ counted 1
+      ∷ [];
   sights = adjoints (nan ∷ float 0 ∷ float 1 ∷ []) ∷ [];
 }
 
@@ -245,9 +252,11 @@ abbrev pub left-first : Row
 left-first = record {
   before = fresh (sevens 4);
   calls =
-      move start ∷ leaf (float 3) ∷ weighed-twice (node-at 0) (node-at 0) (float 1) (neg (float (2 ^ 53))) ∷ weighed (node-at 0) (float (2 ^ 53)) ∷ plus (node-at 1) (node-at 2) ∷ pass (backward (node-at 3)) ∷ [];
+      move start ∷ leaf (float 3) ∷ weighed-twice (node-at 0) (node-at 0) (float 1) (neg (float (2 ^ 53)))
+      ∷ weighed (node-at 0) (float (2 ^ 53)) ∷ plus (node-at 1) (node-at 2) ∷ pass (backward (node-at 3)) ∷ [];
   answers =
-      done ∷ recorded (float 3) (first 0) ∷ recorded (float 1) (first 1) ∷ recorded (float 1) (first 2) ∷ recorded (float 2) (first 3) ∷ counted 5 ∷ [];
+      done ∷ recorded (float 3) (first 0) ∷ recorded (float 1) (first 1) ∷ recorded (float 1) (first 2)
+      ∷ recorded (float 2) (first 3) ∷ counted 5 ∷ [];
   sights = adjoints (float 0 ∷ float 1 ∷ float 1 ∷ float 1 ∷ []) ∷ [];
 }
 
@@ -270,7 +279,8 @@ own-child = record {
   before =
       machine (state 3 1 false 8) (arrays (replicate 3 (float 7)) (replicate 3 (float 7)) (7 ∷ 7 ∷ 7 ∷ []) (0 ∷ 1 ∷ 1 ∷ []) (replicate 4 1 ++ (0 ∷ 7 ∷ [])) (replicate 6 (float 1)));
   calls =
-      pass (backward (node (handle 2 7))) ∷ pass (backward-to-mark (node (handle 0 7))) ∷ pass propagate-to-mark ∷ pass (backward-mark-to-start (node (handle 2 7))) ∷ [];
+      pass (backward (node (handle 2 7))) ∷ pass (backward-to-mark (node (handle 0 7))) ∷ pass propagate-to-mark
+      ∷ pass (backward-mark-to-start (node (handle 2 7))) ∷ [];
   answers = refused UnsoundEdge ∷ refused UnsoundEdge ∷ refused UnsoundEdge ∷ counted 0 ∷ [];
   sights = adjoints (float 7 ∷ float 7 ∷ float 1 ∷ []) ∷ [];
 }
@@ -281,7 +291,8 @@ three-edges = record {
   before =
       machine (state 2 0 false 8) (arrays (replicate 2 (float 7)) (replicate 2 (float 7)) (7 ∷ 7 ∷ []) (0 ∷ 3 ∷ []) (replicate 4 0) (replicate 4 (float 1)));
   calls =
-      pass (backward (node (handle 1 7))) ∷ pass (backward (node (handle 1 6))) ∷ pass (backward (plain (float 1))) ∷ pass (backward (node (handle 0 7))) ∷ [];
+      pass (backward (node (handle 1 7))) ∷ pass (backward (node (handle 1 6))) ∷ pass (backward (plain (float 1)))
+      ∷ pass (backward (node (handle 0 7))) ∷ [];
   answers = refused UnsoundEdge ∷ refused NotLive ∷ refused Detached ∷ counted 0 ∷ [];
   sights = adjoints (float 1 ∷ float 7 ∷ []) ∷ [];
 }
@@ -291,7 +302,8 @@ abbrev pub mark-over-length : Row
 mark-over-length = record {
   before = machine (state 1 2 true 8) (sevens 2);
   calls =
-      move start ∷ times (node-at 0) (node-at 0) ∷ clear ∷ pass (backward (node-at 0)) ∷ pass propagate-to-mark ∷ value-of (node-at 0) ∷ adjoint-of (plain (float 1)) ∷ is-live (node-at 0) ∷ list 0 ∷ [];
+      move start ∷ times (node-at 0) (node-at 0) ∷ clear ∷ pass (backward (node-at 0)) ∷ pass propagate-to-mark
+      ∷ value-of (node-at 0) ∷ adjoint-of (plain (float 1)) ∷ is-live (node-at 0) ∷ list 0 ∷ [];
   answers = replicate 9 (refused Misshapen);
   sights = adjoints (float 7 ∷ float 7 ∷ []) ∷ [];
 }
@@ -322,8 +334,10 @@ listed-nan = record {
 abbrev pub rows : List Row
 rows =
     P1-to-start ∷ P1-to-mark ∷ P2 ∷ P3 ∷ P4 ∷ P5 ∷ P6 ∷ P7-at-the-mark ∷ P7-past-it ∷ P8
-    ∷ in-the-middle ∷ start-from-below ∷ mark-from-the-end ∷ mark-from-between ∷ mark-from-below ∷ zero-adjoint ∷ left-first
-    ∷ clearing ∷ plain-numbers ∷ own-child ∷ three-edges ∷ mark-over-length ∷ listed-empty ∷ listed-zero ∷ listed-nan ∷ []
+    ∷ in-the-middle ∷ start-from-below ∷ mark-from-the-end ∷ mark-from-between ∷ mark-from-below ∷ zero-adjoint
+    ∷ left-first
+    ∷ clearing ∷ plain-numbers ∷ own-child ∷ three-edges ∷ mark-over-length ∷ listed-empty ∷ listed-zero ∷ listed-nan
+    ∷ []
 
 abbrev pub EveryRow : Type 0
 EveryRow = All rows
