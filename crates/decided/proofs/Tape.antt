@@ -8,11 +8,11 @@ use Rattle.tape.specs.Answers.{Answer, outcome}
 use Rattle.tape.specs.declared.tape.Moved.{Moved}
 use Rattle.tape.proofs.OneToOne.{one-to-one}
 use Rattle.decided.specs.Tape.{Tape}
-use Rattle.decided.proofs.Rules.{equal, told-by}
+use Rattle.decided.proofs.Rules.{equal, through}
 
 -- the rule gives what a move tells beside any arrays
 moved : {U : Type 0} {x y : Moved} {o : Arrays floats → Answer floats × Machine floats} {u : U} → ((A : Arrays floats) → outcome x A ≡ o A) → ((A : Arrays floats) → outcome y A ≡ o A) → (x ≡ y) × (u ≡ u)
-moved p q = let A : Arrays floats = arrays [] [] [] [] [] [] in told-by (λ x y. one-to-one .moves x y A) (p A) (q A)
+moved p q = let A : Arrays floats = arrays [] [] [] [] [] [] in through (λ x y. one-to-one .moves x y A) (p A) (q A)
 
 pub tape : Tape
 tape = record {

@@ -1,6 +1,5 @@
 -- By the admission, then by the row.
-use mathlib.Core.Path.{ap, _∙_}
-use mathlib.Core.Path.{_≡_, subst}
+use mathlib.Core.Path.{_≡_, ap, subst, _∙_}
 use denote.Ref.{now}
 use Rattle.tape.specs.Numbers.{floats}
 use Rattle.tape.specs.Operations.{known, apply}
@@ -34,17 +33,24 @@ decide-spec =
     (λ _ _. tt)
     (λ _ _. tt)
     (λ _ _. tt)
-    (λ c κs. let k = c .before .before .before .before .before in let a = c .before .before .before .before .before .before .before .before .args in length-small (a .tape) (a .lent) (is-granted _ (admission caller.Recording (a .lent) (a .tape)) (k .admit .ensures) (c .before .before .before .enum-told .given .1)))
+    (λ c κs.
+    let k = c .before .before .before .before .before in
+    let a = k .before .before .before .args in
+    length-small (a .tape) (a .lent) (is-granted _ (admission caller.Recording (a .lent) (a .tape)) (k .admit .ensures) (c .before .before .before .enum-told .given .1)))
     (λ c.
     let k = c .before .before .before .before in
     let a = c .before .before .before .before .before .before .before .args in
     let s = row-for (now (a .value)) (a .op) (a .left) (a .right) (a .supplied) in
-    door-refused _ _ s (a .left) (a .right) (admission caller.Recording (a .lent) (a .tape)) (row-refusal s (usable-operand (a .tape) (now (a .serial)) (a .left)) (usable-operand (a .tape) (now (a .serial)) (a .right))) (is-refused _ _ _ (k .admit .ensures) (c .before .before .refusal .given .1)) (c .refused .ensures))
+    let u = usable-operand (a .tape) (now (a .serial)) (a .left) in
+    let w = usable-operand (a .tape) (now (a .serial)) (a .right) in
+    door-refused _ _ s (a .left) (a .right) (admission caller.Recording (a .lent) (a .tape)) (row-refusal s u w)
+    (is-refused _ _ _ (k .admit .ensures) (c .before .before .refusal .given .1)) (c .refused .ensures))
     (λ c.
     let k = c .before .before .before .before .before .before in
     let a = c .before .before .before .before .before .before .before .before .before .args in
     let s = row-for (now (a .value)) (a .op) (a .left) (a .right) (a .supplied) in
     let u = usable-operand (a .tape) (now (a .serial)) (a .left) in
     let w = usable-operand (a .tape) (now (a .serial)) (a .right) in
-    door-granted _ s (a .left) (a .right) (admission caller.Recording (a .lent) (a .tape)) (row-refusal s u w) (is-granted _ (admission caller.Recording (a .lent) (a .tape)) (k .admit .ensures) (c .before .before .before .before .enum-told .given .1))
+    door-granted _ s (a .left) (a .right) (admission caller.Recording (a .lent) (a .tape)) (row-refusal s u w)
+    (is-granted _ (admission caller.Recording (a .lent) (a .tape)) (k .admit .ensures) (c .before .before .before .before .enum-told .given .1))
     (subst (λ s. Decides (c .make .result) (row-refusal s u w) s (a .left) (a .right)) (found (c .before)) (c .make .ensures))))

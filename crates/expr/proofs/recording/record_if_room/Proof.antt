@@ -16,10 +16,21 @@ returns-3 : tie.Need-returns-3
 returns-3 c = rw (not-false (c .before .before .before .before .before .before .before .before .before .before .before .before .args .tape .active) (c .before .before .before .before .if1 .left), ne-eqb _ _ (c .before .before .if2 .left), eq-eqb _ _ (c .if3 .taken))
 
 append-requires : tie.Need-append-requires
-append-requires c κs = (c .before .before .before .before .before .before .before .before .before .before .before .before .before .before .before .before .before .before .pre .0, search needs, room (c .before .before .before .before .before .before .before .before .before .before .before .before .before .before .before .before .before .before .args .tape) _ (c .before .before .before .before .before .before .before .before .before .before .before .before .before .before .before .before .before .before .pre .1) (c .before .before .before .before .before .before .before .before .if2 .left))
+append-requires c κs =
+    let second = c .before .before .before .before .before .before .before .before in
+    let first = second .before .before in
+    let start = first .before .before .before .before .before .before .before .before in
+    (start .pre .0, search needs, room (start .args .tape) _ (start .pre .1) (second .if2 .left))
 
 returns-4 : tie.Need-returns-4
-returns-4 c = c .before .before .before .before .before .before .before .before .before .before .before .before .append .ensures ∙ rw (not-false (c .before .before .before .before .before .before .before .before .before .before .before .before .before .before .before .before .before .before .before .before .before .before .before .before .before .before .before .before .before .before .before .args .tape .active) (c .before .before .before .before .before .before .before .before .before .before .before .before .before .before .before .before .before .before .before .before .before .before .before .if1 .left), ne-eqb _ _ (c .before .before .before .before .before .before .before .before .before .before .before .before .before .before .before .before .before .before .before .before .before .if2 .left), ne-eqb _ _ (c .before .before .before .before .before .before .before .before .before .before .before .before .before .before .before .before .before .before .before .if3 .left))
+returns-4 c =
+    let appended = c .before .before .before .before .before .before .before .before .before .before .before .before in
+    let third = appended .before .before .before .before .before .before .before in
+    let second = third .before .before in
+    let first = second .before .before in
+    let start = first .before .before .before .before .before .before .before .before in
+    appended .append .ensures
+    ∙ rw (not-false (start .args .tape .active) (first .if1 .left), ne-eqb _ _ (second .if2 .left), ne-eqb _ _ (third .if3 .left))
 
 pub record-if-room-spec : {M : Type 1} → statement M
 record-if-room-spec =
