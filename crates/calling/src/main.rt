@@ -1,9 +1,12 @@
 // Two leaves, their product, a pass back, an adjoint; then a rewind, and the product is refused (docs/CALLING.md).
 use dual::Passed;
 use dual::Read;
+use dual::passes::backward;
 use expr::MULTIPLY;
 use expr::Recorded;
 use expr::Supplied;
+use expr::operators::new_leaf;
+use expr::recording::record;
 use libc::STDOUT_FILENO;
 use listing::bits_of;
 use tape::Handle;
@@ -32,18 +35,13 @@ fn main() {
     let count: &mut [u8] = &mut counts;
     let child: &mut [u16] = &mut children;
     let partial: &mut [f64] = &mut partials;
-
     let tape = moved(Tape::new().start_recording());
-    let leaf = expr::operators::new_leaf(tape, value, adjoint, serial, count, child, partial, 3.0);
-    let x = recorded(leaf);
-    let tape = x.tape;
-    let leaf = expr::operators::new_leaf(tape, value, adjoint, serial, count, child, partial, 2.0);
-    let y = recorded(leaf);
-    let tape = y.tape;
+    let x = recorded(new_leaf(tape, value, adjoint, serial, count, child, partial, 3.0));
+    let y = recorded(new_leaf(x.tape, value, adjoint, serial, count, child, partial, 2.0));
     let left = x.node;
     let right = y.node;
-    let product = recorded(expr::recording::record(
-        tape,
+    let product = recorded(record(
+        y.tape,
         value,
         adjoint,
         serial,
@@ -57,7 +55,7 @@ fn main() {
     ));
     let tape = product.tape;
     let root = product.node;
-    passed(dual::passes::backward(tape, value, adjoint, serial, count, child, partial, root));
+    passed(backward(tape, value, adjoint, serial, count, child, partial, root));
     read(dual::reading::adjoint(tape, value, adjoint, serial, count, child, partial, left));
     let tape = moved(tape.rewind_to_init());
     read(dual::reading::adjoint(tape, value, adjoint, serial, count, child, partial, root));

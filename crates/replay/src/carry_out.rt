@@ -50,7 +50,6 @@ pub(crate) fn carry_out(
     given: Supplied,
 ) -> Heard {
     if is_operation(kind) {
-        let op = operation(kind);
         return after_recording(record(
             tape,
             value,
@@ -59,7 +58,7 @@ pub(crate) fn carry_out(
             count,
             child,
             partial,
-            op,
+            operation(kind),
             left,
             right,
             given,

@@ -139,12 +139,8 @@ fn one_line(
         given(call),
     );
     keep(places, heard.node);
-    run.judged(
-        list,
-        line,
-        call,
-        with_digests(heard, call.kind, &*value, &*adjoint),
-    )
+    let digested = with_digests(heard, call.kind, &*value, &*adjoint);
+    run.judged(list, line, call, digested)
 }
 
 fn given(call: Call) -> Supplied {

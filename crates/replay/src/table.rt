@@ -107,18 +107,13 @@ fn judge(
         bits: case[1],
     };
     let count = tape_kinds::supplied_of(kind);
+    let at = operands + count;
+    let told = node_of(left.on_tape, right.on_tape, at, partials, case);
     let given = nodes::supplied(
         count,
         case[operands],
         case[operands + 1],
         case[operands + 2],
-    );
-    let told = node_of(
-        left.on_tape,
-        right.on_tape,
-        operands + count,
-        partials,
-        case,
     );
     let got = nodes::carry_out(tape_kinds::operation(kind), left, right, given);
     let apart = is_apart(kind, left.bits, right.bits);
