@@ -36,7 +36,8 @@ pub fn backward(
 ) -> Passed
     ensures { λ x. ⌜
         pass-outcome x (machine tape (lent-after value adjoint serial count child partial))
-        ≡ step (pass (backward (operand root))) (machine tape (lent-before value adjoint serial count child partial)) ⌝ }
+        ≡ step (pass (backward (operand root)))
+        (machine tape (lent-before value adjoint serial count child partial)) ⌝ }
 {
     run(
         Pass::Backward(root),
@@ -64,7 +65,8 @@ pub fn backward_to_mark(
 ) -> Passed
     ensures { λ x. ⌜
         pass-outcome x (machine tape (lent-after value adjoint serial count child partial))
-        ≡ step (pass (backward-to-mark (operand root))) (machine tape (lent-before value adjoint serial count child partial)) ⌝ }
+        ≡ step (pass (backward-to-mark (operand root)))
+        (machine tape (lent-before value adjoint serial count child partial)) ⌝ }
 {
     run(
         Pass::BackwardToMark(root),
@@ -92,7 +94,8 @@ pub fn backward_mark_to_start(
 ) -> Passed
     ensures { λ x. ⌜
         pass-outcome x (machine tape (lent-after value adjoint serial count child partial))
-        ≡ step (pass (backward-mark-to-start (operand root))) (machine tape (lent-before value adjoint serial count child partial)) ⌝ }
+        ≡ step (pass (backward-mark-to-start (operand root)))
+        (machine tape (lent-before value adjoint serial count child partial)) ⌝ }
 {
     run(
         Pass::BackwardMarkToStart(root),

@@ -50,7 +50,8 @@ pub fn record(
 ) -> Recorded
     ensures { λ x. ⌜
         outcome x (lent-after value adjoint serial count child partial)
-        ≡ step (operate op (operand left) (operand right) (given supplied)) (machine tape (lent-before value adjoint serial count child partial)) ⌝ }
+        ≡ step (operate op (operand left) (operand right) (given supplied))
+        (machine tape (lent-before value adjoint serial count child partial)) ⌝ }
 {
     let lent = Lengths::of(&*value, &*adjoint, &*serial, &*count, &*child, &*partial);
     let decision = decide(tape, lent, &*value, &*serial, op, left, right, supplied);
@@ -117,7 +118,10 @@ fn decide(
     supplied: Supplied,
 ) -> Decision
     ensures { λ x. ⌜
-        Decides x (recording-refusal tape lent (now (serial .entry)) (row-for (now (value .entry)) op left right supplied) left right) (row-for (now (value .entry)) op left right supplied) left right ⌝ }
+        Decides x
+        (recording-refusal tape lent (now (serial .entry)) (row-for (now (value .entry)) op left right supplied) left right)
+        (row-for (now (value .entry)) op left right supplied)
+        left right ⌝ }
 {
     match tape.admit(Caller::Recording, lent) {
         Admission::Refused(refusal) => refused(refusal),
