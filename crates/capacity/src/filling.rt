@@ -41,7 +41,7 @@ pub(crate) fn fill(
     filled
 }
 
-// The leaf that comes after i others, worth i.
+// The leaf that comes after i others, of value i.
 fn one_more(
     filled: Filled,
     i: usize,

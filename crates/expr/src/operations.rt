@@ -50,7 +50,7 @@ pub(crate) enum Row {
     Two(f64, f64, f64),
 }
 
-// The row of operation op for operands worth l and r.
+// The row of operation op for operands of values l and r.
 pub(crate) fn apply(op: u8, l: f64, r: f64, supplied: Supplied) -> Row
     ensures { λ x. ⌜ row-in x ≡ (known op, apply op l r (given supplied)) ⌝ }
 {

@@ -6,7 +6,7 @@ use crate::table;
 use crate::tally::Tally;
 use crate::words::byte_at;
 
-// Carries the case out, tells a difference or that it is no case, and counts it.
+// Carries the case out, reports a difference or that it is no case, and counts it.
 pub(crate) fn replay(list: &[u8], subject: Subject, case: &[u8], before: Tally) -> Tally {
     match subject {
         Subject::Forward(order) => orders::replay(list, order, case, before.next_line()),

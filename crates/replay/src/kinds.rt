@@ -19,8 +19,7 @@ pub enum Subject {
     Stale,
 }
 
-// Whether a list tells how many cases of a kind it has. A list from before operations 8 and 9 were compared has none of
-// them, and does not tell so.
+// Whether the report of a list has a line for a kind: for operations 8 and 9 only where the list has cases of them.
 pub(crate) fn is_told(subject: Subject, kind: usize, cases: u64) -> bool {
     match subject {
         Subject::Forward(_) => true,

@@ -14,7 +14,7 @@ use crate::words::Case;
 use crate::words::PLACES;
 use crate::words::find;
 
-// Carries the line out, tells a difference or that it is no case, and counts it.
+// Carries the line out, reports a difference or that it is no case, and counts it.
 pub(crate) fn replay(list: &[u8], order: usize, line: &[u8], tally: Tally) -> Tally {
     let kind = kinds::forward_kind(line);
     if kind == KINDS {

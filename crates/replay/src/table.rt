@@ -29,7 +29,7 @@ struct Form {
     right: u8,
 }
 
-// Records the line's operation, tells a difference or that the line is no case, and counts it.
+// Records the line's operation, reports a difference or that the line is no case, and counts it.
 pub(crate) fn replay(list: &[u8], line: &[u8], tally: Tally) -> Tally {
     let kind = kinds::tape_kind(line);
     if !tape_kinds::is_operation(kind) {
@@ -124,7 +124,7 @@ fn judge(
     tally.next_case(kind, false, apart)
 }
 
-// The node that the line tells after the words that are given. An operand on the tape has the index at which it stands
+// The node that the line has after the words that are given. An operand on the tape has the index at which it stands
 // there, the left before the right.
 fn node_of(left: bool, right: bool, given: usize, partials: usize, case: &Case) -> Node
     requires { ⌜ (given ≤ 5) × (partials ≤ 2) ⌝ }
@@ -159,7 +159,7 @@ fn is_zero(bits: u64) -> bool {
     (bits == PLUS_ZERO) | (bits == MINUS_ZERO)
 }
 
-// Whether the port recorded the node that is told, but for its value where that is left out.
+// Whether the port recorded the node that the line has, but for its value where that is left out.
 fn agrees(got: Outcome, told: Node, apart: bool) -> bool {
     match got {
         Outcome::Node(node) => is_same(node, told, apart),

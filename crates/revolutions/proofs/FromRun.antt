@@ -1,4 +1,4 @@
--- A session that runs resolves to one that fits: what its calls tell by not being refused.
+-- A session that runs resolves to one that fits: what follows from none of its calls being refused.
 use Prim.Native.Nat.{ℕ, suc, _+_}
 use native.Mathlib.Nat.{add-zero, add-suc, suc-add, zero-add}
 use native.Mathlib.Omega.{arith}
@@ -56,7 +56,7 @@ module _ {N : Numbers} (L : Machine N) (m j : ℕ) (nodes : L .state .length ≡
 
 -- ---- operations one after another
 
--- what these operations tell from place j on, and where they lead
+-- what follows for these operations, from place j on, and where they lead
 pub record FromRun {N : Numbers} (A : Arrays N) (m first k j : ℕ) (os : List (Operation N)) (L : Machine N) : Type 0 where
   pub operations : AllProper m j (map (resolve-operation m) os)
   pub serials : Spared (k + j) (length os)

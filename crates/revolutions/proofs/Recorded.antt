@@ -1,5 +1,5 @@
--- Operations that are recorded one after the other make the nodes that their operations mean. A live handle stands for
--- a node below the length; everything else is read off `Holds`.
+-- Operations that are recorded one after the other make the nodes of the long tape that they resolve to. A live handle
+-- stands for a node below the length; everything else is read off `Holds`.
 use Prim.Native.Nat.{ℕ, _+_, _-_, _≤_}
 use native.Mathlib.Omega.{arith}
 use mathlib.Core.Path.{_≡_, refl, sym, ap, subst, _∙_}

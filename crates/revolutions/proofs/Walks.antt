@@ -1,4 +1,4 @@
--- Walks over lists: what they keep, and walks beside one another. Each is told of one edge first, and then by induction
+-- Walks over lists: what they keep, and walks beside one another. Each is shown of one edge first, and then by induction
 -- on the edges and on the nodes.
 use Prim.Native.Nat.{ℕ, zero, suc, _+_, _-_, _≤_, _<_}
 use native.Mathlib.Nat.{zero-add, suc-add, le-refl}

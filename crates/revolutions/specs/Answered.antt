@@ -1,13 +1,10 @@
 -- Demand 1: every call on a tape, on any machine, ends in an answer or in one refusal of document 01's list.
 -- The public calls of crates `tape`, `expr`, `dual` and `listing` are each a `step` of this machine, by their promises;
--- what a
--- listing leaves in its bytes is in crates/listing/specs/Outcome.antt. No step, and so not spoken of here, are the
--- public functions
--- that make a state or a number (`Tape::new`, `Refusal::number`, `bits_of`) and those that calls are made of:
--- `Handle::lookup` and
--- `Handle::usable` answer `looked-up` and `usable-as` (crates/tape/specs/Handles.antt), `Lengths::of` and `Tape::admit`
--- answer
--- `lengths` and `admitted (admission ..)` (crates/tape/specs/Admission.antt).
+-- what a listing leaves in its bytes is in crates/listing/specs/Outcome.antt.
+-- No step, and so not spoken of here, are the public functions that make a state or a number (`Tape::new`,
+-- `Refusal::number`, `bits_of`) and those that calls are made of: `Handle::lookup` and `Handle::usable` answer
+-- `looked-up` and `usable-as` (crates/tape/specs/Handles.antt), `Lengths::of` and `Tape::admit` answer `lengths` and
+-- `admitted (admission ..)` (crates/tape/specs/Admission.antt).
 use Prim.Native.Nat.{ℕ}
 use mathlib.Core.Path.{_≡_}
 use mathlib.Core.Bool.{Bool, true, false, _||_}

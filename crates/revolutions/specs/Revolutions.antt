@@ -1,5 +1,5 @@
--- The sum over revolutions, demand 3. Read downwards: a session of calls, what its calls mean, the one long tape that
--- they mean, and what is proved. Over any numbers; no law of them is assumed.
+-- The sum over revolutions, demand 3. Read downwards: a session of calls, what it resolves to, the one long tape that
+-- is built from that, and what is proved. Over any numbers; no law of them is assumed.
 use Prim.Native.Nat.{ℕ, _+_, _-_, _≤_}
 use mathlib.Core.Path.{_≡_}
 use mathlib.Core.Bool.{Bool, true, false, cond}
@@ -66,14 +66,15 @@ abbrev pub without-reads : {N : Numbers} → List (Call N) → List (Call N)
 without-reads [] = []
 without-reads (c ∷ cs) = cond (reads c) (without-reads cs) (c ∷ without-reads cs)
 
--- ---- what its calls mean
+-- ---- what it resolves to
 
 -- an operand stands for a node of the model, for a node of its own revolution, or for a number
 pub data ResolvedOperand (N : Numbers) : Type 0 where
   in-model own : ℕ → ResolvedOperand N
   number : N .Number → ResolvedOperand N
 
--- behind a model of m nodes. A handle's index tells which node: if the handle is not live, the call is refused
+-- what an operand stands for, behind a model of m nodes. A handle's index says which node: if the handle is not live,
+-- the call is refused
 abbrev pub resolve-operand : {N : Numbers} → ℕ → Operand N → ResolvedOperand N
 resolve-operand m (plain x) = number x
 resolve-operand m (node h) = cond (ltb (h .index) m) (in-model (h .index)) (own (h .index - m))

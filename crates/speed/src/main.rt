@@ -1,7 +1,6 @@
 // Records, walks and rewinds a full tape as often as it is told. A line of standard input names a plan of operands and
-// a number of rounds, as `near 100`, and a line of output says what
-// they came to. There is no clock here: bench/run measures from outside, this program and the Rust alike
-// (docs/SPEED.md).
+// a number of rounds, as `near 100`, and a line of output says what they came to. There is no clock here: bench/run
+// measures from outside, this program and the Rust alike (docs/SPEED.md).
 mod plan;
 mod report;
 mod requests;

@@ -1,7 +1,6 @@
-// What is recorded: operations 1 to 7 mixed, in blocks of 16 nodes behind 15 leaves. A block's last node adds what the
-// block came to to the sum of those before it, so that the last adjoint
-// reaches every block. No operation makes a large number or a small one, and a block is short, so that nothing
-// overflows on the way down.
+// What is recorded: operations 1 to 7 mixed, in blocks of 16 nodes behind 15 leaves. A block's last node adds its
+// result to the sum of the blocks before it, so that the last adjoint reaches every block. No operation makes a large
+// number or a small one, and a block is short, so that nothing overflows on the way down.
 use expr::ADD;
 use expr::DIVIDE;
 use expr::LEAF;

@@ -86,7 +86,7 @@ module _ {N : Numbers} (A : Arrays N) (i m n : ℕ) (l : i ≤ m) (h : m ≤ n) 
   pub sound-cut : all (map (sound A) (indexes m (n - m))) ≡ true → all (map (sound A) (indexes i (m - i))) ≡ true → all (map (sound A) (indexes i (n - i))) ≡ true
   sound-cut high low = rw (indexes-cut i m n l h, map-append, all-append, low) high
 
--- x is what a call does that is not refused
+-- x is what a call that is not refused does
 pub record Accepted {N : Numbers} (c : Call N) (M : Machine N) (x : Answer N × Machine N) : Type 0 where
   pub passed : Passed c M
   pub carries : x ≡ carried c M

@@ -72,7 +72,7 @@ mover-unlent reset-mark = refl
 mover-unlent rewind-to-mark = refl
 mover-unlent rewind-to-init = refl
 
--- what each row tells that gives none, in the table's order
+-- what follows from each row that gives none, in the table's order
 module _ {N : Numbers} {c : Call N} {M : Machine N} (p : Passed c M) where
   rows : AllNone (refusals (asked c (M .state)) M)
   rows = all-none (refusals (asked c (M .state)) M) (p .none-refuses)

@@ -1,4 +1,5 @@
--- What tests tell: a branch, a list of tests that all hold, and refusal 1's not being given, which bounds tell in turn.
+-- What follows from tests: a branch, a list of tests that all hold, and bounds where refusal 1 is not given; and back,
+-- from bounds to the tests.
 use Prim.Native.Nat.{ℕ, _≤_}
 use mathlib.Core.Path.{_≡_, refl}
 use mathlib.Core.Bool.{Bool, true, false, _||_, cond, true≢false, and-eq-true-iff}

@@ -123,7 +123,7 @@ walked P M = with-adjoints M (walk (P .from) (map (edges-at (M .lent)) (range P)
 
 -- ---- every call
 
--- what a call does that is not refused
+-- what a call that is not refused does
 abbrev pub carried : {N : Numbers} → Call N → Machine N → Answer N × Machine N
 carried (move m) M = (done, machine (moved m (M .state)) (M .lent))
 carried (operate op left right g) M =

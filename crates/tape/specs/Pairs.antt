@@ -1,6 +1,6 @@
 -- Refusals that meet: for every two that one call can meet at once, a call that meets both, the refusal that it gets,
 -- and what the same call gets once the cause of that one is gone.
--- They fix the order of the table, each row by computation. `Order` is proved in proofs/Pairs.antt.
+-- They fix the order of the table.
 use Prim.Native.Nat.{ℕ}
 use mathlib.Core.Path.{_≡_}
 use mathlib.Core.Bool.{true}
@@ -66,7 +66,7 @@ unknown x = binary 10 x x
 abbrev pub Refused : Call floats → Machine floats → Refusal → Type 0
 Refused c M r = step c M .0 ≡ refused r
 
--- Proved in proofs/Pairs.antt
+-- Proved in proofs/Pairs.antt, by computation
 pub record Order : Type 0 where
   pub one-and-two : Refused (unknown (node-at 0)) (misshapen roomy) Misshapen
       × Refused (unknown (node-at 0)) (on roomy) UnknownOperation

@@ -285,7 +285,8 @@ own-child = record {
   sights = adjoints (float 7 ∷ float 7 ∷ float 1 ∷ []) ∷ [];
 }
 
--- three edges are refused 7, after 3 and 4 for the root, and not where the walk does not reach them
+-- three edges are refused 7, but after 3 for a root that is not live, and not where the walk does not reach them; a root
+-- that is a number is refused 4
 abbrev pub three-edges : Row
 three-edges = record {
   before =

@@ -50,6 +50,6 @@ sum (k ∷ ks) = k + sum ks
 abbrev pub visited : {N : Numbers} → Arrays N → List ℕ → ℕ
 visited A range = sum (map (λ i. getD (A .count) i 0) range)
 
--- refusal 7 asks of node i: at most two edges, and each child that they count below i
+-- what refusal 7 asks of node i: at most two edges, and the child of each below i
 abbrev pub sound : {N : Numbers} → Arrays N → ℕ → Bool
 sound A i = leb (getD (A .count) i 0) most-edges && all (map (λ e. ltb (e .child) i) (edges-at A i))

@@ -1,8 +1,7 @@
 // The tape: its small state, handles to its nodes, refusals, and what every call tests of the arrays it is lent.
 //
 // specs/ hold document 01's machine. A call on the tape, here and in the crates above, is one step of it;
-// `Tape::admit`,
-// `Lengths::of`, `Handle::lookup` and `Handle::usable` are what such calls are made of.
+// `Tape::admit`, `Lengths::of`, `Handle::lookup` and `Handle::usable` are what such calls are made of.
 pub mod admission;
 pub mod errors;
 pub mod node;

@@ -20,11 +20,11 @@ read-on b n (byte ∷ text) = cond (ltb (digit-value byte) b) (read-on b (b * n 
 abbrev pub read-hex : List ℕ → Parsed
 read-hex text = cond (eqb (length text) 16) (read-on 16 0 text) NotANumber
 
--- at most 16 hex digits: the first of 16, of which the others are zeros and left out
+-- at most 16 hex digits: the first of 16, the others being zeros that are left out
 abbrev pub read-hex-start : List ℕ → Parsed
 read-hex-start text = read-hex (text ++ drop (length text) (replicate 16 48))
 
--- 1 to `most` decimal digits, and of 19 at most, which 64 bits hold
+-- 1 to `most` decimal digits, and at most 19, which 64 bits hold
 abbrev pub read-digits : ℕ → List ℕ → Parsed
 read-digits most text =
     cond (leb 1 (length text) && leb (length text) most && leb (length text) 19) (read-on 10 0 text) NotANumber

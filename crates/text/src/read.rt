@@ -31,7 +31,7 @@ pub fn read_hex_start(text: &[u8]) -> Parsed
     read_hex(&whole)
 }
 
-// Reads 1 to `most` decimal digits.
+// Reads 1 to `most` decimal digits, and at most 19.
 pub fn read_digits(text: &[u8], most: usize) -> Parsed
     ensures { λ x. ⌜ x ≡ read-digits most (now (text .entry)) ⌝ }
 {
@@ -42,7 +42,7 @@ pub fn read_digits(text: &[u8], most: usize) -> Parsed
     value(text, 10)
 }
 
-// Reads 1 to `most` decimal digits with no leading zero.
+// Reads 1 to `most` decimal digits, and at most 19, with no leading zero.
 pub fn read_decimal(text: &[u8], most: usize) -> Parsed
     ensures { λ x. ⌜ x ≡ read-decimal most (now (text .entry)) ⌝ }
 {
