@@ -11,7 +11,7 @@ use lib.ListN.{set, take, replicate}
 use Rattle.tape.specs.Numbers.{floats}
 use Rattle.tape.specs.Machine.{Arrays, Machine, arrays, machine, new-tape, state}
 use Rattle.tape.specs.Handles.{Operand, plain, node, looked-up, usable-as}
-use Rattle.tape.specs.Operations.{ADD, SUBTRACT, MULTIPLY, DIVIDE, MAX, MIN, NEGATE, SUPPLIED-ONE, SUPPLIED-TWO}
+use Rattle.tape.specs.Operations.{UNKNOWN, ADD, SUBTRACT, MULTIPLY, DIVIDE, MAX, MIN, NEGATE, SUPPLIED-ONE, SUPPLIED-TWO}
 use Rattle.tape.specs.Walk.{Edge}
 use Rattle.tape.specs.Listing.{listing}
 use Rattle.tape.specs.Answers.{Answer, number, refused, done, read-value, recorded, counted}
@@ -237,7 +237,7 @@ abbrev pub record-tried : List Tried
 record-tried =
     a-step (step (binary NEGATE x0 unused) two) (with-adjoint (minus (float 3)) (recording (minus (float 3)) (to 0 (minus one) ∷ [])))
     ∷ a-step (step (binary NEGATE x0 stale) two) (refused Refusal·NotLive, two)
-    ∷ a-step (step (binary 10 x0 x1) two) (recording nan [])
+    ∷ a-step (step (binary UNKNOWN x0 x1) two) (recording nan [])
     ∷ a-step (step (binary NEGATE x0 unused) full) (recorded (minus (float 3)) (issued (full .state)), written full (minus (float 3)) (to 0 (minus one) ∷ []))
     ∷ a-step (step (expr.new-leaf one) spent) (recorded one (issued (spent .state)), written spent one []) ∷ []
 

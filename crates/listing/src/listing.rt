@@ -15,7 +15,7 @@ ghost use mathlib.Core.List.{_++_};
 ghost use lib.Ieee.{binary64, toBits};
 ghost use lib.ListN.{length};
 ghost use Rattle.tape.specs.Numbers.{floats};
-ghost use Rattle.tape.specs.Machine.{Arrays, machine, lent-before};
+ghost use Rattle.tape.specs.Machine.{Arrays, machine, lent-before, most-nodes};
 ghost use Rattle.tape.specs.Walk.{indexes};
 ghost use Rattle.text.specs.Numerals.{hex, decimal};
 ghost use Rattle.text.specs.Inner.{Wrote};
@@ -66,7 +66,7 @@ const HEADER_BYTES: usize = 6 + 6 + 8 + 1 + 1;
 const LINE_BYTES: usize = 5 + 5 + 5 + 2 * 16 + 1;
 
 fn listing_length(tape: Tape) -> usize
-    requires { ⌜ tape .length ≤ 65535 ⌝ }
+    requires { ⌜ tape .length ≤ most-nodes ⌝ }
     ensures { λ x. ⌜ ((A : Arrays floats) → x ≡ length (listing (machine tape A))) ⌝ }
 {
     let nodes = decimal_length(tape.length as u64);
@@ -76,7 +76,7 @@ fn listing_length(tape: Tape) -> usize
 
 // Every index has a digit, and one more from 10, from 100, from 1,000 and from 10,000 on.
 fn lines_length(nodes: usize) -> usize
-    requires { ⌜ nodes ≤ 65535 ⌝ }
+    requires { ⌜ nodes ≤ most-nodes ⌝ }
     ensures { λ x. ⌜ ((A : Arrays floats) → x ≡ length (lines A (indexes 0 nodes))) ⌝ }
 {
     nodes * (LINE_BYTES + 1)

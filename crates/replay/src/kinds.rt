@@ -20,7 +20,7 @@ pub enum Subject {
 }
 
 // Whether the report of a list has a line for a kind: for operations 8 and 9 only where the list has cases of them.
-pub(crate) fn is_told(subject: Subject, kind: usize, cases: u64) -> bool {
+pub(crate) fn is_reported(subject: Subject, kind: usize, cases: u64) -> bool {
     match subject {
         Subject::Forward(_) => true,
         Subject::Table => tape_kinds::is_operation(kind) & is_met(kind, cases),

@@ -163,7 +163,7 @@ fn each_kind(list: &[u8], subject: Subject, names: &[u8], tally: Tally) {
 }
 
 fn of_kind(list: &[u8], subject: Subject, name: &[u8], kind: usize, counted: Count) {
-    if !kinds::is_told(subject, kind, counted.cases) {
+    if !kinds::is_reported(subject, kind, counted.cases) {
         return;
     }
     text(list);

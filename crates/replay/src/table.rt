@@ -108,7 +108,7 @@ fn judge(
     };
     let count = tape_kinds::supplied_of(kind);
     let at = operands + count;
-    let told = node_of(left.on_tape, right.on_tape, at, partials, case);
+    let wanted = node_of(left.on_tape, right.on_tape, at, partials, case);
     let given = nodes::supplied(
         count,
         case[operands],
@@ -117,7 +117,7 @@ fn judge(
     );
     let got = nodes::carry_out(tape_kinds::operation(kind), left, right, given);
     let apart = is_apart(kind, left.bits, right.bits);
-    if agrees(got, told, apart) {
+    if agrees(got, wanted, apart) {
         return tally.next_case(kind, true, apart);
     }
     report::outcome(list, tally.lines, line, got);
@@ -160,21 +160,21 @@ fn is_zero(bits: u64) -> bool {
 }
 
 // Whether the port recorded the node that the line has, but for its value where that is left out.
-fn agrees(got: Outcome, told: Node, apart: bool) -> bool {
+fn agrees(got: Outcome, wanted: Node, apart: bool) -> bool {
     match got {
-        Outcome::Node(node) => is_same(node, told, apart),
+        Outcome::Node(node) => is_same(node, wanted, apart),
         Outcome::NoNode => false,
         Outcome::Refused(_) => false,
     }
 }
 
-fn is_same(node: Node, told: Node, apart: bool) -> bool {
-    (apart | (node.value == told.value))
-        & (node.count == told.count)
-        & ((told.count < 1) | is_same_edge(node.first, told.first))
-        & ((told.count < 2) | is_same_edge(node.second, told.second))
+fn is_same(node: Node, wanted: Node, apart: bool) -> bool {
+    (apart | (node.value == wanted.value))
+        & (node.count == wanted.count)
+        & ((wanted.count < 1) | is_same_edge(node.first, wanted.first))
+        & ((wanted.count < 2) | is_same_edge(node.second, wanted.second))
 }
 
-fn is_same_edge(edge: Edge, told: Edge) -> bool {
-    (edge.child == told.child) & (edge.partial == told.partial)
+fn is_same_edge(edge: Edge, wanted: Edge) -> bool {
+    (edge.child == wanted.child) & (edge.partial == wanted.partial)
 }

@@ -38,7 +38,7 @@ example = record {
 
 pub overlapping : Overlapping
 unfolding step add sub mul div neg lt le ofInt ofBits toBits
-overlapping = record { runs = record { session = refl; unrefused = none-refused (run (calls swapped) before .0) refl; roots = (omega arith, (omega arith, (omega arith, tt))) }; adjoints = refl; resolves = refl; swapped-means = refl; changed = unlike _ _ _ _ refl refl (λ e. omega arith); not-apart = λ apart. true≢false (apart 1 (omega arith)) }
+overlapping = record { runs = record { session = refl; unrefused = none-refused (run (calls swapped) before .0) refl; roots = (omega arith, (omega arith, (omega arith, tt))) }; adjoints = refl; resolves = refl; swapped-resolves = refl; changed = unlike _ _ _ _ refl refl (λ e. omega arith); not-apart = λ apart. true≢false (apart 1 (omega arith)) }
 
 pub apart-here : ApartHere
 unfolding add sub mul div neg lt le ofInt ofBits

@@ -74,9 +74,9 @@ called M o =
 
 module _ {N : Numbers} (M : Machine N) (b k : ℕ) (models owns adjoints : List (N .Number)) (ess : List (List (Edge N))) (long : length models ≡ b) (held : Holds M k (models ++ owns) adjoints ess) where
   -- a live operand has the value of what it resolves to
-  same-worth : (o : Operand N) (os : List (Operand N)) → first-amiss M (handles (o ∷ os)) ≡ none → (operand-value M o ≡ value-resolved models owns (resolve-operand b o)) × (first-amiss M (handles os) ≡ none)
-  same-worth (plain x) os all-live = (refl, all-live)
-  same-worth (node h) os all-live =
+  same-operand-value : (o : Operand N) (os : List (Operand N)) → first-amiss M (handles (o ∷ os)) ≡ none → (operand-value M o ≡ value-resolved models owns (resolve-operand b o)) × (first-amiss M (handles os) ≡ none)
+  same-operand-value (plain x) os all-live = (refl, all-live)
+  same-operand-value (node h) os all-live =
       let (l, others) = first-live M h (handles os) all-live in
       (sym (getD-take (M .state .length) (M .lent .value) (h .index) (N .blank) (l .below)) ∙ ap (λ s. getD s (h .index) (N .blank)) (held .value) ∙ same-value N b models owns h long, others)
 
@@ -86,13 +86,13 @@ module _ {N : Numbers} (M : Machine N) (b k : ℕ) (models owns adjoints : List 
     sides : (t : Bool) → one-sided (o .operation) ≡ t → first-amiss M (handles (cond t (o .left ∷ []) (o .left ∷ o .right ∷ []))) ≡ none
         → called M o ≡ made b models owns (record { operation = o .operation; left = resolve-operand b (o .left); right = cond t (number (N .nought)) (resolve-operand b (o .right)); supplied = o .supplied })
     sides true t all-live =
-        let l = same-worth (o .left) [] all-live .0 in
+        let l = same-operand-value (o .left) [] all-live .0 in
         let x = value-resolved models owns (resolve-operand b (o .left)) in
         let idle : row-of o x (N .nought) .right ≡ none = alone (o .operation) x (N .nought) (o .supplied) t in
         by-rows b (o .left) (o .right) (number (N .nought)) _ _ (ap (λ x. row-of o x (operand-value M (o .right))) l ∙ right-idle (o .operation) x _ (N .nought) (o .supplied) t) (subst (λ p. edge (o .right) p ≡ edge-resolved b (number (N .nought)) p) (sym idle) (same-edge N b (o .right) none))
     sides false t all-live =
-        let (l, rest) = same-worth (o .left) (o .right ∷ []) all-live in
-        let r = same-worth (o .right) [] rest .0 in
+        let (l, rest) = same-operand-value (o .left) (o .right ∷ []) all-live in
+        let r = same-operand-value (o .right) [] rest .0 in
         by-rows b (o .left) (o .right) (resolve-operand b (o .right)) _ _ (ap (λ x. row-of o x (operand-value M (o .right))) l ∙ ap (row-of o (value-resolved models owns (resolve-operand b (o .left)))) r) (same-edge N b (o .right) _)
 
   -- one operation more

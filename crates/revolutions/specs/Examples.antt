@@ -9,6 +9,7 @@ use lib.Ieee.{Float, binary64, toBits, neg}
 use lib.ListN.{take, drop, replicate}
 use Rattle.tape.specs.Numbers.{floats}
 use Rattle.tape.specs.Machine.{Machine}
+use Rattle.tape.specs.Operations.{LEAF, ADD, MULTIPLY, SUPPLIED-ONE}
 use Rattle.tape.specs.Handles.{Operand, plain, node}
 use Rattle.tape.specs.Calls.{Call, adjoint-of, value-of, list}
 use Rattle.tape.specs.Kept.{fresh}
@@ -28,16 +29,16 @@ unused = node (handle 9 9)
 
 -- x = 3, and x * x
 abbrev pub model : List (Operation floats)
-model = operation 0 (plain (float 3)) unused ∷ operation 3 (node-at 0) (node-at 0) ∷ []
+model = operation LEAF (plain (float 3)) unused ∷ operation MULTIPLY (node-at 0) (node-at 0) ∷ []
 
 -- On node i of the model: its value put on the tape again; a value of 5 with supplied partial w; that plus 1, which is
 -- the root; and past the root its product with the first. The serials of the four nodes begin at k
 abbrev pub revolution : ℕ → Float → ℕ → Revolution floats
 revolution i w k = record {
-  operations = operation 0 (node-at i) unused
-      ∷ record { operation = 8; left = node-at i; right = unused; supplied = given (float 5) w w }
-      ∷ operation 1 (node (handle 3 (k + 1))) (plain (float 1))
-      ∷ operation 3 (node (handle 4 (k + 2))) (node (handle 2 k))
+  operations = operation LEAF (node-at i) unused
+      ∷ record { operation = SUPPLIED-ONE; left = node-at i; right = unused; supplied = given (float 5) w w }
+      ∷ operation ADD (node (handle 3 (k + 1))) (plain (float 1))
+      ∷ operation MULTIPLY (node (handle 4 (k + 2))) (node (handle 2 k))
       ∷ [];
   root = handle 4 (k + 2);
 }
@@ -106,7 +107,7 @@ pub record Overlapping : Type 0 where
   pub adjoints : bits (model-adjoints swapped (calls swapped) before) ≡ 0x4032_0000_0000_0000 ∷ 0x4008_0000_0000_0000
       ∷ []
   pub resolves : resolve three ≡ with-both (resolve three .model) (back 1 (float 3) ∷ []) (back 1 high) (back 1 (neg high)) []
-  pub swapped-means : resolve swapped ≡ with-both (resolve three .model) (back 1 (float 3) ∷ []) (back 1 (neg high)) (back 1 high) []
+  pub swapped-resolves : resolve swapped ≡ with-both (resolve three .model) (back 1 (float 3) ∷ []) (back 1 (neg high)) (back 1 high) []
   pub changed : model-adjoints three three-calls before ≡ model-adjoints swapped (calls swapped) before → ⊥
   pub not-apart : Apart (resolve three .model) (back 1 high) (back 1 (neg high)) → ⊥
 

@@ -6,10 +6,10 @@ use Rattle.tape.specs.Numbers.{floats}
 use Rattle.tape.specs.Machine.{Arrays, machine}
 use Rattle.tape.specs.Answers.{outcome, done}
 use Rattle.tape.specs.Calls.{Move, start, stop, set-mark, reset-mark, rewind-to-mark, rewind-to-init, move, moved}
-use Rattle.tape.specs.Admission.{no-arrays, admitted, admission}
+use Rattle.tape.specs.Admission.{admitted, admission}
 use Rattle.tape.specs.Refusals.{mover, first}
 use Rattle.tape.specs.Steps.{unless, step}
-use Rattle.tape.specs.Inner.{moved-by}
+use Rattle.tape.specs.Inner.{no-arrays, moved-by}
 use Rattle.tape.specs.declared.errors.Refusal.{Refusal}
 use Rattle.tape.specs.declared.tape.Moved.{Moved}
 use Rattle.tape.specs.declared.tape.Tape.{Tape}

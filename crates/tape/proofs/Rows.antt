@@ -85,4 +85,4 @@ unfolding step add sub mul div neg lt le ofInt ofBits toBits
 every-choice = ((refl, (refl, tt)), (refl, (refl, tt)), (refl, (refl, tt)), (refl, (refl, tt)))
 
 pub every-text : EveryText
-every-text = (refl, refl, refl, refl, refl)
+every-text = refl

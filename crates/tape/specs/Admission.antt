@@ -21,9 +21,6 @@ abbrev pub lengths : {N : Numbers} → Arrays N → Lengths
 lengths A =
     record { value = length (A .value); adjoint = length (A .adjoint); serial = length (A .serial); count = length (A .count); child = length (A .child); partial = length (A .partial) }
 
-abbrev pub no-arrays : Lengths
-no-arrays = record { value = 0; adjoint = 0; serial = 0; count = 0; child = 0; partial = 0 }
-
 -- which calls are lent the arrays
 abbrev pub is-lent : Caller → Bool
 is-lent caller.Start = false

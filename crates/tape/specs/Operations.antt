@@ -39,6 +39,10 @@ SUPPLIED-ONE = 8
 abbrev pub SUPPLIED-TWO : ℕ
 SUPPLIED-TWO = 9
 
+-- numbers from here to 255 are refused
+abbrev pub UNKNOWN : ℕ
+UNKNOWN = 10
+
 -- what the host supplies for operations 8 and 9
 pub record Given (N : Numbers) : Type 0 where
   pub value : N .Number
@@ -81,9 +85,8 @@ apply {N} op l r g =
     let s = getD (rows l r g) op (row (N .blank) none none) in
     row (s .value) (as-stored N (s .left)) (as-stored N (s .right))
 
--- numbers 10 to 255 are refused
 abbrev pub known : ℕ → Bool
-known op = ltb op 10
+known op = ltb op UNKNOWN
 
 -- operations 0, 7 and 8 use the left operand alone
 abbrev pub one-sided : ℕ → Bool

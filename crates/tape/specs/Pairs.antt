@@ -9,9 +9,9 @@ use lib.ListN.{length, replicate}
 use Rattle.tape.specs.Numbers.{floats}
 use Rattle.tape.specs.Machine.{Arrays, Machine, arrays, machine, slot, state}
 use Rattle.tape.specs.Handles.{Operand, plain, node}
-use Rattle.tape.specs.Operations.{ADD, NEGATE}
+use Rattle.tape.specs.Operations.{ADD, NEGATE, UNKNOWN}
 use Rattle.tape.specs.Answers.{refused}
-use Rattle.tape.specs.Calls.{Call, pass, backward, propagate-to-mark, value-of, adjoint-of, list}
+use Rattle.tape.specs.Calls.{Call, pass, backward, backward-to-mark, value-of, adjoint-of, list}
 use Rattle.tape.specs.Refusals.{last-serial}
 use Rattle.tape.specs.Steps.{step}
 use Rattle.tape.specs.Rows.{float, handle, node-at, leaf, binary}
@@ -58,7 +58,7 @@ a-number = plain (float 5)
 
 -- an operation that the table does not have
 abbrev pub unknown : Operand floats → Call floats
-unknown x = binary 10 x x
+unknown x = binary UNKNOWN x x
 
 -- ---- the pairs
 
@@ -91,6 +91,6 @@ pub record Order : Type 0 where
       × Refused (binary NEGATE (node-at 0) stale) (spent roomy) SerialsSpent
   pub three-and-seven : Refused (pass (backward stale)) (on unsound) NotLive
       × Refused (pass (backward (node-at 1))) (on unsound) UnsoundEdge
-  pub four-and-seven : Refused (pass (backward a-number)) (on unsound) Detached
-      × Refused (pass propagate-to-mark) (on unsound) UnsoundEdge
+  pub four-and-seven : Refused (pass (backward-to-mark a-number)) (on unsound) Detached
+      × Refused (pass (backward-to-mark (node-at 1))) (on unsound) UnsoundEdge
   pub five-and-six : Refused (leaf (float 5)) (spent full) Full × Refused (leaf (float 5)) (spent roomy) SerialsSpent

@@ -9,7 +9,7 @@ use mathlib.Core.List.{List, [], _∷_, _++_}
 use lib.IntN.{pos}
 use lib.Ieee.{Float, nan, inf, binary64, ofInt, neg}
 use lib.ListN.{replicate}
-use Rattle.text.specs.Numerals.{bytes, decimal, hex}
+use Rattle.text.specs.Numerals.{bytes}
 use Rattle.tape.specs.Numbers.{floats}
 use Rattle.tape.specs.Machine.{Arrays, Machine, arrays, machine, most-nodes, slot, state}
 use Rattle.tape.specs.Handles.{Operand, plain, node}
@@ -361,11 +361,6 @@ EveryChoice =
     × Holds (chosen MAX (float 1) nan nan)
     × Holds (chosen MIN (float 1) nan nan)
 
--- the listing's numbers, where a line of the rows has too few digits to tell. Proved in proofs/Rows.antt
+-- the header's numbers, where a listing of the rows has too few digits to tell. Proved in proofs/Rows.antt
 abbrev pub EveryText : Type 0
-EveryText =
-    (header (state most-nodes 10 false 1) ≡ bytes "nodes=65535 mark=10 active=0\n")
-    × (decimal 0 ≡ bytes "0")
-    × (decimal 100 ≡ bytes "100")
-    × (decimal 18446744073709551615 ≡ bytes "18446744073709551615")
-    × (hex 0x0123_4567_89ab_cdef ≡ bytes "0123456789abcdef")
+EveryText = header (state most-nodes 10 false 1) ≡ bytes "nodes=65535 mark=10 active=0\n"

@@ -7,10 +7,10 @@ use crate::errors::Refusal;
 ghost use mathlib.Core.Path.{_≡_};
 ghost use Rattle.tape.specs.Numbers.{floats};
 ghost use Rattle.tape.specs.Machine.{Arrays, machine, new-tape};
-ghost use Rattle.tape.specs.Admission.{no-arrays, admission, admitted};
+ghost use Rattle.tape.specs.Admission.{admission, admitted};
 ghost use Rattle.tape.specs.Calls.{move, start, stop, set-mark, reset-mark, rewind-to-mark, rewind-to-init};
 ghost use Rattle.tape.specs.Steps.{step};
-ghost use Rattle.tape.specs.Inner.{moved-by};
+ghost use Rattle.tape.specs.Inner.{no-arrays, moved-by};
 ghost use Rattle.tape.specs.Answers.{outcome};
 
 pub struct Tape {

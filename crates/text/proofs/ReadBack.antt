@@ -19,8 +19,8 @@ read-then : (b m : ℕ) (front back : List ℕ) (k : ℕ) → read-on b m front 
 read-then b m [] back k e = let f : m ≡ k = cc in rw f
 read-then b m (byte ∷ front) back k e = let (digit, rest) = if-passed (ltb (digit-value byte) b) e in rw digit (read-then b (b * m + digit-value byte) front back k rest)
 
-worth-digit : (d : ℕ) → d < 16 → digit-value (digit d) ≡ d
-worth-digit d h = by-test (ltb d 10) refl
+digit-value-of : (d : ℕ) → d < 16 → digit-value (digit d) ≡ d
+digit-value-of d h = by-test (ltb d 10) refl
   where
     by-test : (t : Bool) → ltb d 10 ≡ t → digit-value (cond t (48 + d) (87 + d)) ≡ d
     by-test true e = let k = ltb-true d 10 e in simp (le-leb 48 (48 + d) (omega arith), le-leb (48 + d) 57 (omega arith)) (omega arith)
@@ -33,7 +33,7 @@ read-back b (suc k) n h i j =
     let below : last < b = mod-lt n (omega arith) in
     let rest : n / b < b ^ k = div-lt-iff-lt-mul {k = b} {x = n} {y = b ^ k} (omega arith) .1 (omega (arith, pow-succ' b k)) in
     let front = read-then b 0 (digits b k (n / b)) (digit last ∷ []) (n / b) (read-back b k (n / b) h i rest) in
-    let value = worth-digit last (omega arith) in
+    let value = digit-value-of last (omega arith) in
     front ∙ rw (value, lt-ltb last b below, div-add-mod n b)
 
 -- ---- decimals

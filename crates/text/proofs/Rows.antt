@@ -6,7 +6,9 @@ pub every-row : EveryRow
 every-row = record {
   bits-of-one = refl;
   lower-case = refl;
+  all-digits = refl;
   nought = refl;
+  hundred = refl;
   most = refl;
   last-digits = refl;
   fits = refl;

@@ -20,7 +20,9 @@ ones = 1 ∷ 1 ∷ 1 ∷ []
 pub record EveryRow : Type 0 where
   pub bits-of-one : hex 0x3ff0_0000_0000_0000 ≡ bytes "3ff0000000000000"
   pub lower-case : hex 0xabcd_ef01 ≡ bytes "00000000abcdef01"
+  pub all-digits : hex 0x0123_4567_89ab_cdef ≡ bytes "0123456789abcdef"
   pub nought : decimal 0 ≡ bytes "0"
+  pub hundred : decimal 100 ≡ bytes "100"
   pub most : decimal 0xffff_ffff_ffff_ffff ≡ bytes "18446744073709551615"
   pub last-digits : digits 10 3 12045 ≡ bytes "045"
   -- to the last byte; a byte too long; nothing behind the end; a place whose sum with a length passes 64 bits

@@ -1,4 +1,5 @@
 // Numbers out of texts, each text read to its end.
+use crate::write::HEX_DIGITS;
 ghost use Prim.Native.Nat.{_≤_, _^_};
 ghost use mathlib.Core.Path.{_≡_};
 ghost use lib.ListN.{length};
@@ -51,8 +52,6 @@ pub fn read_decimal(text: &[u8], most: usize) -> Parsed
     }
     read_digits(text, most)
 }
-
-const HEX_DIGITS: usize = 16;
 
 // As many decimal digits as 64 bits hold, whichever they are.
 const MOST_DIGITS: usize = 19;

@@ -58,7 +58,7 @@ pub fn decimal_length(n: u64) -> usize
     places
 }
 
-const HEX_DIGITS: usize = 16;
+pub(crate) const HEX_DIGITS: usize = 16;
 
 // Whether `count` bytes from `at` on lie within `length`. The sum of the two may not fit 64 bits.
 fn has_room(length: usize, at: usize, count: usize) -> bool
