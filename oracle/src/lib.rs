@@ -4,8 +4,10 @@
 //! writes their paths. The others are ours.
 
 pub mod draw;
+pub mod nodes;
 pub mod operations;
 pub mod random;
+pub mod request;
 pub mod session;
 pub mod words;
 

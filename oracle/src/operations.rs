@@ -4,7 +4,10 @@ use std::ops::{Add, Div, Mul, Neg, Sub};
 
 use crate::ad::constant::Const;
 use crate::ad::dual::Dual;
-use crate::ad::expr::{max, min};
+use crate::ad::expr::{
+    abs, cos, exp, fabs, log, max, min, pow, sin, sqrt, AbsOp, AddOp, BinOp, CosOp, DivOp, ExpOp,
+    FabsOp, LogOp, MaxOp, MinOp, MulOp, PowOp, SinOp, SqrtOp, SubOp, UnOp,
+};
 use crate::ad::scalar::Scalar;
 
 /// An operand: a value with a node, or one without, which stands for a plain number.
@@ -20,7 +23,18 @@ pub struct Form {
 pub struct Kind {
     pub name: &'static str,
     pub links: bool,
+    /// Whether the port has no such operation, and is supplied its value and partials.
+    pub supplied: bool,
+    /// The value and the partials at two numbers.
+    pub rule: fn(f64, f64) -> [f64; 3],
     pub forms: Vec<Form>,
+}
+
+impl Kind {
+    #[must_use]
+    pub fn operands(&self) -> usize {
+        self.forms[0].letters.len()
+    }
 }
 
 fn plain(x: Operand) -> Const<f64> {
@@ -33,12 +47,39 @@ fn put_again(mut x: Operand) -> Dual<f64> {
     x
 }
 
+/// An operation of one operand, a `Dual` or a `Const`, that the port is supplied.
+macro_rules! one {
+    ($operation:path, $rule:ident) => {
+        Kind {
+            name: "supplied_one",
+            links: true,
+            supplied: true,
+            rule: |l, _| {
+                let value = $rule::eval(l);
+                [value, $rule::deriv(l, value), 0.0]
+            },
+            forms: vec![
+                Form {
+                    letters: "n",
+                    record: |l, _| $operation(l).into(),
+                },
+                Form {
+                    letters: "p",
+                    record: |l, _| $operation(plain(l)).into(),
+                },
+            ],
+        }
+    };
+}
+
 /// An operation of two operands, each a `Dual` or a `Const`.
 macro_rules! two {
-    ($name:literal, $operation:path) => {
+    ($name:literal, $operation:path, $rule:ident) => {
         Kind {
             name: $name,
             links: true,
+            supplied: false,
+            rule: |l, r| [$rule::eval(l, r), $rule::d_left(l, r), $rule::d_right(l, r)],
             forms: vec![
                 Form {
                     letters: "nn",
@@ -61,13 +102,15 @@ macro_rules! two {
     };
 }
 
-/// Every operation, in the order of its number, by the Rust's own operators.
+/// Every operation that the port has, in the order of its number, by the Rust's own operators.
 #[must_use]
 pub fn kinds() -> Vec<Kind> {
     vec![
         Kind {
             name: "leaf",
             links: false,
+            supplied: false,
+            rule: |l, _| [l, 0.0, 0.0],
             forms: vec![
                 Form {
                     letters: "n",
@@ -79,15 +122,17 @@ pub fn kinds() -> Vec<Kind> {
                 },
             ],
         },
-        two!("add", Add::add),
-        two!("sub", Sub::sub),
-        two!("mul", Mul::mul),
-        two!("div", Div::div),
-        two!("max", max),
-        two!("min", min),
+        two!("add", Add::add, AddOp),
+        two!("sub", Sub::sub, SubOp),
+        two!("mul", Mul::mul, MulOp),
+        two!("div", Div::div, DivOp),
+        two!("max", max, MaxOp),
+        two!("min", min, MinOp),
         Kind {
             name: "neg",
             links: true,
+            supplied: false,
+            rule: |l, _| [l.neg_val(), -1.0, 0.0],
             forms: vec![
                 Form {
                     letters: "n",
@@ -100,4 +145,33 @@ pub fn kinds() -> Vec<Kind> {
             ],
         },
     ]
+}
+
+/// The operations that document 01 leaves to the host, as the port takes them: supplied, of one operand or of two.
+#[must_use]
+pub fn supplied_kinds() -> Vec<Kind> {
+    let power = Kind {
+        supplied: true,
+        ..two!("supplied_two", pow, PowOp)
+    };
+    vec![
+        one!(exp, ExpOp),
+        one!(log, LogOp),
+        one!(sqrt, SqrtOp),
+        one!(sin, SinOp),
+        one!(cos, CosOp),
+        one!(abs, AbsOp),
+        one!(fabs, FabsOp),
+        power,
+    ]
+}
+
+/// The operations of a list: the port's own, or these and those that it is supplied.
+#[must_use]
+pub fn kinds_of(supplied: bool) -> Vec<Kind> {
+    let mut all = kinds();
+    if supplied {
+        all.extend(supplied_kinds());
+    }
+    all
 }

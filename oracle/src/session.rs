@@ -7,6 +7,7 @@ use std::ptr::NonNull;
 use crate::ad::dual::Dual;
 use crate::ad::node::TapeNode;
 use crate::ad::tape::{Tape, TAPE};
+use crate::nodes::supplied;
 use crate::operations::Kind;
 use crate::words::{bits, digest, short};
 
@@ -155,6 +156,10 @@ impl Session {
         self.text.push_str(kind.name);
         for &operand in given {
             self.say_given(operand);
+        }
+        let operands: Vec<Dual<f64>> = given.iter().map(|&operand| self.dual(operand)).collect();
+        for x in supplied(kind, &operands, made) {
+            self.say(short(bits(x)));
         }
         let mark = if made.is_on_tape() { "" } else { "p" };
         self.say(format_args!("{mark}{}", short(bits(made.value()))));

@@ -1,15 +1,13 @@
 // Leaves asked for one after another, as many as the arrays have entries, and what their answers come to.
 use expr::Recorded;
 use tape::Handle;
+use tape::MOST_NODES;
 use tape::Tape;
 ghost use Prim.Native.Nat.{_≤_, _<_};
 ghost use lib.ListN.{length};
 
-// Stands where no leaf was recorded: a handle with serial 0 is never live.
-const NO_HANDLE: Handle = Handle {
-    index: 0,
-    serial: 0,
-};
+// One entry more than a tape can have.
+pub const TOO_MANY: usize = MOST_NODES + 1;
 
 pub struct Filled {
     pub tape: Tape,
@@ -28,13 +26,13 @@ pub(crate) fn fill(
     child: &mut [u16],
     partial: &mut [f64],
 ) -> Filled
-    requires { ⌜ length (now value) ≤ 65536 ⌝ }
+    requires { do ⌜ length (now value) ≤ (← ⟦TOO_MANY⟧) ⌝ }
 {
     let leaves = value.len();
     let mut filled = Filled {
         tape,
-        first: NO_HANDLE,
-        last: NO_HANDLE,
+        first: Handle::NEVER_LIVE,
+        last: Handle::NEVER_LIVE,
         in_order: 0,
     };
     for i in 0..leaves {
@@ -43,7 +41,7 @@ pub(crate) fn fill(
     filled
 }
 
-// The leaf that comes after i others, worth i.
+// The leaf that comes after i others, of value i.
 fn one_more(
     filled: Filled,
     i: usize,
@@ -54,7 +52,7 @@ fn one_more(
     child: &mut [u16],
     partial: &mut [f64],
 ) -> Filled
-    requires { ⌜ i < 65536 ⌝ }
+    requires { do ⌜ i < (← ⟦TOO_MANY⟧) ⌝ }
 {
     let x = i as u16 as f64;
     let tape = filled.tape;
@@ -67,7 +65,7 @@ fn one_more(
 
 impl Filled {
     fn with(self, tape: Tape, handle: Handle, i: usize, same: bool) -> Filled
-        requires { ⌜ i < 65536 ⌝ }
+        requires { do ⌜ i < (← ⟦TOO_MANY⟧) ⌝ }
     {
         Filled {
             tape,
@@ -88,7 +86,7 @@ fn earlier(first: Handle, handle: Handle) -> Handle {
 }
 
 fn reached(in_order: usize, handle: Handle, i: usize, same: bool) -> usize
-    requires { ⌜ i < 65536 ⌝ }
+    requires { do ⌜ i < (← ⟦TOO_MANY⟧) ⌝ }
 {
     let next = i + 1;
     if (in_order == i) & (handle.index == i) & (handle.serial == next as u64) & same {

@@ -1,28 +1,36 @@
-// Runs tapes of capacity 0, 1, 65,535 and 65,536 on real arrays and writes down what the calls answer: the row of document 01's edges that is not in the proved table.
+// Runs tapes of capacity 0, 1, 65,535 and 65,536 on real arrays and writes down what the calls answer: the row of
+// document 01's edges that is not in the proved table. Then the refusals that no other program meets.
 mod filling;
+mod refusals;
 mod report;
 mod session;
 
+use filling::TOO_MANY;
+use tape::MOST_EDGES;
+use tape::MOST_NODES;
 ghost use Prim.Native.Nat.{_≤_};
+
+const SLOTS: usize = MOST_EDGES * TOO_MANY;
 
 fn main() {
     at(0);
     at(1);
-    at(65_535);
-    at(65_536);
+    at(MOST_NODES);
+    at(TOO_MANY);
+    refusals::run();
 }
 
 // A session on a tape of capacity n.
 fn at(n: usize)
-    requires { ⌜ n ≤ 65536 ⌝ }
+    requires { do ⌜ n ≤ (← ⟦TOO_MANY⟧) ⌝ }
 {
-    let mut value = [0.0; 65_536];
-    let mut adjoint = [0.0; 65_536];
-    let mut serial = [0u64; 65_536];
-    let mut count = [0u8; 65_536];
-    let mut child = [0u16; 131_072];
-    let mut partial = [0.0; 131_072];
-    let slots = 2 * n;
+    let mut value = [0.0; TOO_MANY];
+    let mut adjoint = [0.0; TOO_MANY];
+    let mut serial = [0u64; TOO_MANY];
+    let mut count = [0u8; TOO_MANY];
+    let mut child = [0u16; SLOTS];
+    let mut partial = [0.0; SLOTS];
+    let slots = MOST_EDGES * n;
     session::run(
         &mut value[..n],
         &mut adjoint[..n],

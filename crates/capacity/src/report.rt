@@ -1,7 +1,9 @@
 // What is written to standard output: a line an answer, with the state that it hands back.
 use crate::filling::Filled;
+use dual::Passed;
 use expr::Recorded;
 use libc::STDOUT_FILENO;
+use listing::Listed;
 use listing::bits_of;
 use tape::Handle;
 use tape::Moved;
@@ -32,6 +34,34 @@ pub(crate) fn recorded(capacity: usize, call: &[u8], answer: Recorded) -> Tape {
             end(tape)
         }
         Recorded::Refused(refusal, tape) => refused(refusal, tape),
+    }
+}
+
+pub(crate) fn passed(capacity: usize, call: &[u8], answer: Passed) {
+    begin(capacity, call);
+    match answer {
+        Passed::Visited(edges) => number(b" visited=", edges as u64),
+        Passed::Refused(refusal) => number(b" refused=", refusal.number() as u64),
+    }
+    text(b"\n");
+}
+
+pub(crate) fn listed(capacity: usize, call: &[u8], answer: Listed) {
+    begin(capacity, call);
+    match answer {
+        Listed::Written(bytes) => number(b" written=", bytes as u64),
+        Listed::Refused(refusal) => number(b" refused=", refusal.number() as u64),
+    }
+    text(b"\n");
+}
+
+// Whether the state and what was lent to be written are as they were.
+pub(crate) fn kept(capacity: usize, call: &[u8], same: bool) {
+    begin(capacity, call);
+    if same {
+        text(b" nothing changed\n");
+    } else {
+        text(b" changed\n");
     }
 }
 

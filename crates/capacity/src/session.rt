@@ -1,7 +1,11 @@
-// One session: a tape is filled, rewound and stopped, and what is answered on the way is written down, the leaves that fill it in one line.
+// One session: a tape is filled, rewound and stopped, and what is answered on the way is written down, the leaves that
+// fill it in one line.
 use crate::filling;
 use crate::filling::Filled;
+use crate::filling::TOO_MANY;
 use crate::report;
+use expr::NEGATE;
+use expr::Supplied;
 use tape::Handle;
 use tape::Operand;
 use tape::Tape;
@@ -16,7 +20,7 @@ pub(crate) fn run(
     child: &mut [u16],
     partial: &mut [f64],
 )
-    requires { ⌜ length (now value) ≤ 65536 ⌝ }
+    requires { do ⌜ length (now value) ≤ (← ⟦TOO_MANY⟧) ⌝ }
 {
     let filled = fill_up(value, adjoint, serial, count, child, partial);
     wind_down(filled, value, adjoint, serial, count, child, partial);
@@ -30,7 +34,7 @@ fn fill_up(
     child: &mut [u16],
     partial: &mut [f64],
 ) -> Filled
-    requires { ⌜ length (now value) ≤ 65536 ⌝ }
+    requires { do ⌜ length (now value) ≤ (← ⟦TOO_MANY⟧) ⌝ }
 {
     let n = value.len();
     let tape = report::moved(n, b"start", Tape::new().start_recording());
@@ -60,7 +64,8 @@ fn wind_down(
     probe(tape, value, adjoint, serial, count, child, partial, first);
 }
 
-// One more leaf, and then the first leaf's handle as an operand. On the full tape it is live, so that only the room is missing: without that, a lookup that finds nothing would pass.
+// One more leaf, and then the first leaf's handle as an operand. On the full tape it is live, so that only the room is
+// missing: without that, a lookup that finds nothing would pass.
 fn probe(
     tape: Tape,
     value: &mut [f64],
@@ -102,6 +107,18 @@ fn negated(
 ) -> Tape {
     let n = value.len();
     let x = Operand::Node(first);
-    let answer = expr::operators::neg(tape, value, adjoint, serial, count, child, partial, x);
+    let answer = expr::recording::record(
+        tape,
+        value,
+        adjoint,
+        serial,
+        count,
+        child,
+        partial,
+        NEGATE,
+        x,
+        x,
+        Supplied::NONE,
+    );
     report::recorded(n, b"first leaf negated", answer)
 }

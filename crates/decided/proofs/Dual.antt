@@ -1,11 +1,12 @@
--- A read's answer is what the machine's step gives, and so are the answer of clearing or of a pass and the adjoints that it leaves.
+-- A read's answer is what the machine's step gives, and so are the answer of clearing or of a pass and the adjoints
+-- that it leaves.
 use mathlib.Core.List.{List}
 use lib.Ieee.{Float}
 use Rattle.tape.specs.Numbers.{floats}
 use Rattle.tape.specs.Machine.{Machine}
-use Rattle.dual.proofs.OneToOne.{told}
+use Rattle.dual.proofs.OneToOne.{one-to-one}
 use Rattle.decided.specs.Dual.{Dual}
-use Rattle.decided.proofs.Rules.{told-with}
+use Rattle.decided.proofs.Rules.{through-with}
 
 -- what is left of a read's parameters: nothing
 abbrev nothing : {U : Type 0} → U → Machine floats → U
@@ -17,13 +18,13 @@ adjoints u M = (tt, (tt, (M .lent .adjoint, u)))
 
 pub dual : Dual
 dual = record {
-  value = record { same = told-with (told .heard) (nothing _) _ _ };
-  adjoint = record { same = told-with (told .heard) (nothing _) _ _ };
-  is-live = record { same = told-with (told .found) (nothing _) _ _ };
-  reset-adjoints = record { same = told-with (told .reset) (adjoints _) _ _ };
-  backward = record { same = told-with (told .passed-back) (adjoints _) _ _ };
-  backward-to-mark = record { same = told-with (told .passed-back) (adjoints _) _ _ };
-  backward-mark-to-start = record { same = told-with (told .passed-back) (adjoints _) _ _ };
-  propagate-to-mark = record { same = told-with (told .passed-back) (adjoints _) _ _ };
-  propagate-mark-to-start = record { same = told-with (told .passed-back) (adjoints _) _ _ };
+  value = record { same = through-with (one-to-one .read-outcome) (nothing _) _ _ };
+  adjoint = record { same = through-with (one-to-one .read-outcome) (nothing _) _ _ };
+  is-live = record { same = through-with (one-to-one .liveness-outcome) (nothing _) _ _ };
+  reset-adjoints = record { same = through-with (one-to-one .cleared-outcome) (adjoints _) _ _ };
+  backward = record { same = through-with (one-to-one .pass-outcome) (adjoints _) _ _ };
+  backward-to-mark = record { same = through-with (one-to-one .pass-outcome) (adjoints _) _ _ };
+  backward-mark-to-start = record { same = through-with (one-to-one .pass-outcome) (adjoints _) _ _ };
+  propagate-to-mark = record { same = through-with (one-to-one .pass-outcome) (adjoints _) _ _ };
+  propagate-mark-to-start = record { same = through-with (one-to-one .pass-outcome) (adjoints _) _ _ };
 }

@@ -4,9 +4,9 @@ use mathlib.Core.List.{List}
 use lib.Ieee.{Float}
 use Rattle.tape.specs.Numbers.{floats}
 use Rattle.tape.specs.Machine.{Arrays}
-use Rattle.expr.proofs.OneToOne.{told}
+use Rattle.expr.proofs.OneToOne.{one-to-one}
 use Rattle.decided.specs.Expr.{Expr}
-use Rattle.decided.proofs.Rules.{told-with}
+use Rattle.decided.proofs.Rules.{through-with}
 
 -- what is left of a recording's parameters: the six arrays, between the state and the operands u, of which nothing is
 abbrev pub six-arrays : {U : Type 0} → U → Arrays floats → Unit {0} × (List Float × (List Float × (List ℕ × (List ℕ × (List ℕ × (List Float × U))))))
@@ -14,16 +14,7 @@ six-arrays u A = (tt, (A .value, (A .adjoint, (A .serial, (A .count, (A .child, 
 
 pub expr : Expr
 expr = record {
-  new-leaf = record { same = told-with told (six-arrays _) _ _ };
-  put-on-tape = record { same = told-with told (six-arrays _) _ _ };
-  add = record { same = told-with told (six-arrays _) _ _ };
-  sub = record { same = told-with told (six-arrays _) _ _ };
-  mul = record { same = told-with told (six-arrays _) _ _ };
-  div = record { same = told-with told (six-arrays _) _ _ };
-  max = record { same = told-with told (six-arrays _) _ _ };
-  min = record { same = told-with told (six-arrays _) _ _ };
-  neg = record { same = told-with told (six-arrays _) _ _ };
-  supplied-one = record { same = told-with told (six-arrays _) _ _ };
-  supplied-two = record { same = told-with told (six-arrays _) _ _ };
-  «record» = record { same = told-with told (six-arrays _) _ _ };
+  new-leaf = record { same = through-with one-to-one (six-arrays _) _ _ };
+  put-on-tape = record { same = through-with one-to-one (six-arrays _) _ _ };
+  «record» = record { same = through-with one-to-one (six-arrays _) _ _ };
 }

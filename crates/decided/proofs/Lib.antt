@@ -4,6 +4,7 @@ pub mod Tape
 pub mod Expr
 pub mod Dual
 pub mod Listing
+pub mod Text
 pub mod Open
 pub mod Wrong
 pub mod Proved

@@ -11,11 +11,11 @@ use denote.Ref.{RefT}
 use denote.Triple.Entry.{Args, Res}
 use denote.Triple.Clauses.{Ended, Lasts, atExit}
 use Rattle.tape.specs.Numbers.{floats}
-use Rattle.tape.specs.Machine.{Arrays, arrays, machine, new-tape}
-use Rattle.tape.specs.Calls.{step}
+use Rattle.tape.specs.Machine.{Arrays, arrays, machine, new-tape, with-next}
+use Rattle.tape.specs.Steps.{step}
 use Rattle.tape.specs.declared.errors.Refusal.the-variants.{Misshapen}
 use Rattle.tape.specs.declared.node.Operand.the-variants.{Number}
-use Rattle.tape.specs.declared.state.Tape.{Tape}
+use Rattle.tape.specs.declared.tape.Tape.{Tape}
 use Rattle.expr.specs.declared.recording.Recorded.the-variants as recorded
 use Rattle.dual.specs.declared.passes.Passed.the-variants as passed
 use Rattle.listing.specs.declared.listing.Listed.the-variants as listed
@@ -31,7 +31,7 @@ left-open T P κs a z ws ws′ kept differ d = differ (d .same {κs = κs} {a = 
 
 -- serial 0 is never next
 abbrev unfit : Tape
-unfit = record { length = 0; mark = 0; active = false; next = 0 }
+unfit = with-next 0 new-tape
 
 abbrev lifetimes : Lfts 6
 lifetimes = ([], ([], ([], ([], ([], ([], tt))))))

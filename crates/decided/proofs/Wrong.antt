@@ -1,9 +1,9 @@
 -- No wrong answer is the rule's: both are computed.
 use mathlib.Core.Path.{refl}
 use lib.Ieee.{add, sub, mul, div, rem, neg, eq, ne, lt, le, ofInt, ofBits, toBits}
-use Rattle.tape.specs.Calls.{step}
 use Rattle.decided.specs.WrongNumbers.{NumbersTried}
 use Rattle.decided.specs.WrongCalls.{CallsTried}
+use Rattle.tape.specs.Steps.{step}
 
 pub numbers-tried : NumbersTried
 unfolding add sub mul div rem neg eq ne lt le ofInt ofBits toBits

@@ -1,7 +1,7 @@
 -- Promises that leave something open are not decided.
 use denote.Triple.Entry.{Res}
 use denote.Triple.Clauses.{Ended, AtExit}
-use Rattle.tape.proofs.state.Tape as tape
+use Rattle.tape.proofs.tape.Tape as tape
 use Rattle.expr.proofs.recording as recording
 use Rattle.dual.proofs.passes as passes
 use Rattle.listing.proofs.listing as listing

@@ -1,4 +1,5 @@
--- A wrong answer, tried: what a promise's rule gives at some input, and what a wrong program would answer there, both written out in whole numbers (of a float, its bits). Where they differ, the promise rules the wrong answer out.
+-- A wrong answer, tried: what a promise's rule gives at some input, and what a wrong program would answer there, both
+-- written out in whole numbers (of a float, its bits). Where they differ, the promise rules the wrong answer out.
 use Prim.Native.Nat.{ℕ}
 use mathlib.Core.Bool.{Bool, true, false, not, _&&_, cond}
 use mathlib.Core.List.{List, [], _∷_}

@@ -1,4 +1,6 @@
--- Wrong answers that the promises of crates `tape`, `expr`, `dual` and `listing` rule out, two or more for each function, and three wrong programs for every call. `Tried` says what a row is; `CallsTried` is proved in proofs/Wrong.antt, by computation.
+-- Wrong answers that the promises of crates `tape`, `expr`, `dual` and `listing` rule out, two or more for each
+-- function, and three wrong programs for every call. `Tried` says what a row is; `CallsTried` is proved in
+-- proofs/Wrong.antt, by computation.
 use Prim.Native.Nat.{ℕ}
 use mathlib.Core.Path.{_≡_}
 use mathlib.Core.Bool.{Bool, true, false, cond}
@@ -7,22 +9,33 @@ use mathlib.Core.Option.{Option, none, some}
 use lib.Ieee.{Float, nan, binary64, div, neg as minus}
 use lib.ListN.{set, take, replicate}
 use Rattle.tape.specs.Numbers.{floats}
-use Rattle.tape.specs.Machine.{Arrays, Machine, arrays, machine, new-tape, fits}
-use Rattle.tape.specs.Handles.{Operand, plain, node, looked-up}
+use Rattle.tape.specs.Machine.{Arrays, Machine, arrays, machine, new-tape, state}
+use Rattle.tape.specs.Handles.{Operand, plain, node, looked-up, usable-as}
+use Rattle.tape.specs.Operations.{UNKNOWN, ADD, SUBTRACT, MULTIPLY, DIVIDE, MAX, MIN, NEGATE, SUPPLIED-ONE, SUPPLIED-TWO}
 use Rattle.tape.specs.Walk.{Edge}
 use Rattle.tape.specs.Listing.{listing}
-use Rattle.tape.specs.Answers.{Answer, number, refused, done, told, recorded, counted}
-use Rattle.tape.specs.Calls.{Call, Move, start, stop, set-mark, reset-mark, rewind-to-mark, rewind-to-init, move, operate, clear, pass, backward, backward-to-mark, backward-mark-to-start, propagate-to-mark, propagate-mark-to-start, value-of, adjoint-of, is-live, list, issued, written, with-adjoints, last-serial, step}
+use Rattle.tape.specs.Answers.{Answer, number, refused, done, read-value, recorded, counted}
+use Rattle.tape.specs.Calls.{Call, Move, start, stop, set-mark, reset-mark, rewind-to-mark, rewind-to-init, move, operate, clear, pass, backward, backward-to-mark, backward-mark-to-start, propagate-to-mark, propagate-mark-to-start, value-of, adjoint-of, is-live, list, issued, written, with-adjoints}
+use Rattle.tape.specs.Admission.{lengths, admitted, let-in}
+use Rattle.tape.specs.Refusals.{last-serial}
+use Rattle.tape.specs.Steps.{step}
 use Rattle.tape.specs.Kept.{fresh, after}
-use Rattle.tape.specs.Rows.{float, sevens, handle, node-at, leaf, four-calls}
+use Rattle.tape.specs.Rows.{float, sevens, handle, node-at, given, leaf, binary, four-calls}
 use Rattle.tape.specs.declared.errors.Refusal.the-variants.{Misshapen, UnknownOperation, NotLive as Refusal·NotLive, Detached, Full, SerialsSpent, ListingTooLong}
 use Rattle.tape.specs.declared.node.Handle.{Handle}
 use Rattle.tape.specs.declared.node.Lookup.{Lookup}
 use Rattle.tape.specs.declared.node.Lookup.the-variants.{Live, NotLive}
-use Rattle.tape.specs.declared.state.Tape.{Tape}
+use Rattle.tape.specs.declared.node.Usable.{Usable}
+use Rattle.tape.specs.declared.node.Usable.the-variants as usable
+use Rattle.tape.specs.declared.admission.Admission.{Admission}
+use Rattle.tape.specs.declared.admission.Admission.the-variants as admission
+use Rattle.tape.specs.declared.admission.Caller.the-variants as caller
+use Rattle.tape.specs.declared.admission.Lengths.{Lengths}
+use Rattle.tape.specs.declared.tape.Tape.{Tape}
+use Rattle.expr.specs.Operators.{unused}
 use Rattle.expr.specs.Operators as expr
 use Rattle.listing.specs.Outcome.{listed}
-use Rattle.decided.specs.Tried.{Tried, tried, ruled-out, bits, a-bool}
+use Rattle.decided.specs.Tried.{Tried, tried, ruled-out, bits}
 
 -- ---- how answers are written out
 
@@ -35,6 +48,23 @@ found NotLive = 0
 
 abbrev pub a-lookup : Lookup → Lookup → Tried
 a-lookup = tried (λ l. found l ∷ [])
+
+abbrev pub usable-shown : Usable → List ℕ
+usable-shown usable.Live = 0 ∷ []
+usable-shown (usable.Refused r) = number r ∷ []
+
+abbrev pub a-usable : Usable → Usable → Tried
+a-usable = tried usable-shown
+
+abbrev pub admission-shown : Admission → List ℕ
+admission-shown admission.Granted = 0 ∷ []
+admission-shown (admission.Refused r) = number r ∷ []
+
+abbrev pub an-admission : Admission → Admission → Tried
+an-admission = tried admission-shown
+
+abbrev pub a-size : Lengths → Lengths → Tried
+a-size = tried (λ n. n .value ∷ n .adjoint ∷ n .serial ∷ n .count ∷ n .child ∷ n .partial ∷ [])
 
 abbrev pub state-shown : Tape → List ℕ
 state-shown t = t .length ∷ t .mark ∷ cond (t .active) 1 0 ∷ t .next ∷ []
@@ -49,7 +79,8 @@ handle-shown (some h) = h .index ∷ h .serial ∷ []
 abbrev pub shown : Answer floats × Machine floats → List ℕ
 shown (a, M) =
     a .number ∷ bits (a .value) ∷ a .count ∷ handle-shown (a .handle) ++ state-shown (M .state)
-    ++ map bits (M .lent .value) ++ map bits (M .lent .adjoint) ++ M .lent .serial ++ M .lent .count ++ M .lent .child ++ map bits (M .lent .partial)
+    ++ map bits (M .lent .value) ++ map bits (M .lent .adjoint) ++ M .lent .serial ++ M .lent .count ++ M .lent .child
+    ++ map bits (M .lent .partial)
 
 abbrev pub a-step : Answer floats × Machine floats → Answer floats × Machine floats → Tried
 a-step = tried shown
@@ -68,9 +99,6 @@ one = floats .one
 abbrev pub over : ℕ → ℕ → Float
 over a b = div binary64 (float a) (float b)
 
-abbrev pub state : ℕ → ℕ → Bool → ℕ → Tape
-state length mark active next = record { length = length; mark = mark; active = active; next = next }
-
 -- a tape of four nodes' room, 9 the next serial
 abbrev pub kept : ℕ → ℕ → Bool → Machine floats
 kept length mark active = machine (state length mark active 9) (sevens 4)
@@ -81,7 +109,8 @@ a-move m wrong = a-step (step (move m) (kept 3 1 true)) (done, machine wrong (se
 
 -- five adjoints where four nodes have room
 abbrev pub longer : Arrays floats
-longer = arrays (sevens 4 .value) (sevens 5 .adjoint) (sevens 4 .serial) (sevens 4 .count) (sevens 4 .child) (sevens 4 .partial)
+longer =
+    arrays (sevens 4 .value) (sevens 5 .adjoint) (sevens 4 .serial) (sevens 4 .count) (sevens 4 .child) (sevens 4 .partial)
 
 -- leaves 3 and 2, and room for one more node
 abbrev pub two : Machine floats
@@ -117,7 +146,8 @@ abbrev pub with-adjoint : Float → Answer floats × Machine floats → Answer f
 with-adjoint a (x, M) = (x, with-adjoints M (set (M .lent .adjoint) 2 a))
 
 abbrev pub with-partial : Float → Answer floats × Machine floats → Answer floats × Machine floats
-with-partial p (x, M) = (x, machine (M .state) (arrays (M .lent .value) (M .lent .adjoint) (M .lent .serial) (M .lent .count) (M .lent .child) (set (M .lent .partial) 4 p)))
+with-partial p (x, M) =
+    (x, machine (M .state) (arrays (M .lent .value) (M .lent .adjoint) (M .lent .serial) (M .lent .count) (M .lent .child) (set (M .lent .partial) 4 p)))
 
 -- 5 - x1 with its one edge in the node's second slot
 abbrev pub in-second-slot : Answer floats × Machine floats
@@ -142,8 +172,20 @@ number-tried = a-number (number Full) (number SerialsSpent)
 
 -- lookup: the serial of another index compared; a handle with serial 0 live where 0 is stored
 abbrev pub lookup-tried : List Tried
-lookup-tried = a-lookup (looked-up 2 (7 ∷ 9 ∷ []) (handle 1 7)) Live
-    ∷ a-lookup (looked-up 1 (0 ∷ []) (handle 0 0)) Live ∷ []
+lookup-tried = a-lookup (looked-up (state 2 0 true 10) (7 ∷ 9 ∷ []) (handle 1 7)) Live
+    ∷ a-lookup (looked-up (state 1 0 true 10) (0 ∷ []) (handle 0 0)) Live ∷ []
+
+-- usable: a handle past the length taken, whose serial is stored there; what is not live refused 4
+abbrev pub usable-tried : List Tried
+usable-tried = a-usable (usable-as (state 1 0 true 10) (7 ∷ 9 ∷ []) (handle 1 9)) usable.Live
+    ∷ a-usable (usable-as (state 2 0 true 10) (7 ∷ 9 ∷ []) (handle 1 7)) (usable.Refused Detached) ∷ []
+
+-- Lengths::of: the capacity in place of the adjoints' own length; children counted by the node
+abbrev pub lengths-of-tried : List Tried
+lengths-of-tried =
+    a-size (lengths longer) (record { value = 4; adjoint = 4; serial = 4; count = 4; child = 8; partial = 8 })
+    ∷ a-size (lengths (sevens 4)) (record { value = 4; adjoint = 4; serial = 4; count = 4; child = 4; partial = 8 })
+    ∷ []
 
 -- new: an active tape; a first serial of 0
 abbrev pub new-tried : List Tried
@@ -180,19 +222,23 @@ abbrev pub rewind-to-init-tried : List Tried
 rewind-to-init-tried = a-step (step (move rewind-to-init) (kept 3 1 false)) (done, kept 0 0 true)
     ∷ a-move rewind-to-init (state 0 0 true 1) ∷ []
 
--- admits: a length over the capacity let through; an array longer than it has to be
-abbrev pub admits-tried : List Tried
-admits-tried = a-bool (fits true (kept 5 0 true)) true
-    ∷ a-bool (fits true (machine (state 1 0 true 9) longer)) true ∷ []
+-- admit: a length over the capacity let through; an array longer than it has to be; a move refused for the arrays,
+-- which it is not lent
+abbrev pub admit-tried : List Tried
+admit-tried = an-admission (admitted (let-in caller.Recording (kept 5 0 true))) admission.Granted
+    ∷ an-admission (admitted (let-in caller.Listing (machine (state 1 0 true 9) longer))) admission.Granted
+    ∷ an-admission (admitted (let-in caller.Move (kept 5 0 true))) (admission.Refused Misshapen) ∷ []
 
 -- ---- wrong answers: expr
 
--- record: the new node's adjoint as its value; a right handle that is not live refused at 7; operation 10 recorded; a node recorded past the capacity, or with the last serial
+-- record: the new node's adjoint as its value; a right handle that is not live refused at NEGATE, which does not use
+-- it; operation 10 recorded; a node recorded past the capacity, or with the last serial
 abbrev pub record-tried : List Tried
-record-tried = a-step (step (expr.neg x0) two) (with-adjoint (minus (float 3)) (recording (minus (float 3)) (to 0 (minus one) ∷ [])))
-    ∷ a-step (step (operate 7 x0 stale expr.nothing) two) (refused Refusal·NotLive, two)
-    ∷ a-step (step (operate 10 x0 x1 expr.nothing) two) (recording nan [])
-    ∷ a-step (step (expr.neg x0) full) (recorded (minus (float 3)) (issued (full .state)), written full (minus (float 3)) (to 0 (minus one) ∷ []))
+record-tried =
+    a-step (step (binary NEGATE x0 unused) two) (with-adjoint (minus (float 3)) (recording (minus (float 3)) (to 0 (minus one) ∷ [])))
+    ∷ a-step (step (binary NEGATE x0 stale) two) (refused Refusal·NotLive, two)
+    ∷ a-step (step (binary UNKNOWN x0 x1) two) (recording nan [])
+    ∷ a-step (step (binary NEGATE x0 unused) full) (recorded (minus (float 3)) (issued (full .state)), written full (minus (float 3)) (to 0 (minus one) ∷ []))
     ∷ a-step (step (expr.new-leaf one) spent) (recorded one (issued (spent .state)), written spent one []) ∷ []
 
 -- new_leaf: an adjoint left by the slot's last tenant; an unused edge slot cleared
@@ -205,62 +251,66 @@ abbrev pub put-on-tape-tried : List Tried
 put-on-tape-tried = a-step (step (expr.put-on-tape x0) two) (recording (float 3) (to 0 one ∷ []))
     ∷ a-step (step (expr.put-on-tape stale) two) (recording (float 2) []) ∷ []
 
--- add: one edge for equal operands; an edge for a plain number
+-- record ADD: one edge for equal operands; an edge for a plain number
 abbrev pub add-tried : List Tried
-add-tried = a-step (step (expr.add x0 x0) two) (recording (float 6) (to 0 (float 2) ∷ []))
-    ∷ a-step (step (expr.add x0 (plain (float 2))) two) (recording (float 5) (to 0 one ∷ to 0 one ∷ [])) ∷ []
+add-tried = a-step (step (binary ADD x0 x0) two) (recording (float 6) (to 0 (float 2) ∷ []))
+    ∷ a-step (step (binary ADD x0 (plain (float 2))) two) (recording (float 5) (to 0 one ∷ to 0 one ∷ [])) ∷ []
 
--- sub: the right partial as 1; a right edge at slot 2i + 1 where the left operand is a number
-abbrev pub sub-tried : List Tried
-sub-tried = a-step (step (expr.sub x0 x1) two) (recording one (to 0 one ∷ to 1 one ∷ []))
-    ∷ a-step (step (expr.sub (plain (float 5)) x1) two) in-second-slot ∷ []
+-- record SUBTRACT: the right partial as 1; a right edge at slot 2i + 1 where the left operand is a number
+abbrev pub subtract-tried : List Tried
+subtract-tried = a-step (step (binary SUBTRACT x0 x1) two) (recording one (to 0 one ∷ to 1 one ∷ []))
+    ∷ a-step (step (binary SUBTRACT (plain (float 5)) x1) two) in-second-slot ∷ []
 
--- mul: the partials exchanged; equal operands as one edge of twice the partial
-abbrev pub mul-tried : List Tried
-mul-tried = a-step (step (expr.mul x0 x1) two) (recording (float 6) (to 0 (float 3) ∷ to 1 (float 2) ∷ []))
-    ∷ a-step (step (expr.mul x0 x0) two) (recording (float 9) (to 0 (float 6) ∷ [])) ∷ []
+-- record MULTIPLY: the partials exchanged; equal operands as one edge of twice the partial
+abbrev pub multiply-tried : List Tried
+multiply-tried = a-step (step (binary MULTIPLY x0 x1) two) (recording (float 6) (to 0 (float 3) ∷ to 1 (float 2) ∷ []))
+    ∷ a-step (step (binary MULTIPLY x0 x0) two) (recording (float 9) (to 0 (float 6) ∷ [])) ∷ []
 
--- div: the left partial as l / r; a refusal at r = 0
-abbrev pub div-tried : List Tried
-div-tried = a-step (step (expr.div x0 x1) two) (recording (over 3 2) (to 0 (over 3 2) ∷ to 1 (minus (over 3 4)) ∷ []))
-    ∷ a-step (step (expr.div x0 (plain nought)) two) (refused UnknownOperation, two) ∷ []
+-- record DIVIDE: the left partial as l / r; a refusal at r = 0
+abbrev pub divide-tried : List Tried
+divide-tried =
+    a-step (step (binary DIVIDE x0 x1) two) (recording (over 3 2) (to 0 (over 3 2) ∷ to 1 (minus (over 3 4)) ∷ []))
+    ∷ a-step (step (binary DIVIDE x0 (plain nought)) two) (refused UnknownOperation, two) ∷ []
 
--- max: a partial of 1 at a tie; the number in place of a NaN on the right
+-- record MAX: a partial of 1 at a tie; the number in place of a NaN on the right
 abbrev pub max-tried : List Tried
-max-tried = a-step (step (expr.max x0 x0) two) (recording (float 3) (to 0 one ∷ to 0 nought ∷ []))
-    ∷ a-step (step (expr.max x0 (plain nan)) two) (recording (float 3) (to 0 nought ∷ [])) ∷ []
+max-tried = a-step (step (binary MAX x0 x0) two) (recording (float 3) (to 0 one ∷ to 0 nought ∷ []))
+    ∷ a-step (step (binary MAX x0 (plain nan)) two) (recording (float 3) (to 0 nought ∷ [])) ∷ []
 
--- min: a partial of 1 at a tie; the number in place of a NaN on the right
+-- record MIN: a partial of 1 at a tie; the number in place of a NaN on the right
 abbrev pub min-tried : List Tried
-min-tried = a-step (step (expr.min x0 x0) two) (recording (float 3) (to 0 one ∷ to 0 nought ∷ []))
-    ∷ a-step (step (expr.min x0 (plain nan)) two) (recording (float 3) (to 0 nought ∷ [])) ∷ []
+min-tried = a-step (step (binary MIN x0 x0) two) (recording (float 3) (to 0 one ∷ to 0 nought ∷ []))
+    ∷ a-step (step (binary MIN x0 (plain nan)) two) (recording (float 3) (to 0 nought ∷ [])) ∷ []
 
--- neg: -x, which is -0.0 at +0.0; a partial of 1
-abbrev pub neg-tried : List Tried
-neg-tried = a-step (step (expr.neg (plain nought)) two) (recording (minus nought) [])
-    ∷ a-step (step (expr.neg x0) two) (recording (minus (float 3)) (to 0 one ∷ [])) ∷ []
+-- record NEGATE: -x, which is -0.0 at +0.0; a partial of 1
+abbrev pub negate-tried : List Tried
+negate-tried = a-step (step (binary NEGATE (plain nought) unused) two) (recording (minus nought) [])
+    ∷ a-step (step (binary NEGATE x0 unused) two) (recording (minus (float 3)) (to 0 one ∷ [])) ∷ []
 
--- supplied_one: the supplied partial stored where the operand is a number; a handle that is not live let through, since its value is not used
+-- record SUPPLIED_ONE: the supplied partial stored where the operand is a number; a handle that is not live let
+-- through, since its value is not used
 abbrev pub supplied-one-tried : List Tried
-supplied-one-tried = a-step (step (expr.supplied-one (plain (float 5)) (float 9) (float 8)) two) (with-partial (float 8) (recording (float 9) []))
-    ∷ a-step (step (expr.supplied-one stale (float 9) (float 8)) two) (recording (float 9) (to 1 (float 8) ∷ [])) ∷ []
+supplied-one-tried =
+    a-step (step (operate SUPPLIED-ONE (plain (float 5)) unused (given (float 9) (float 8) nought)) two) (with-partial (float 8) (recording (float 9) []))
+    ∷ a-step (step (operate SUPPLIED-ONE stale unused (given (float 9) (float 8) nought)) two) (recording (float 9) (to 1 (float 8) ∷ [])) ∷ []
 
--- supplied_two: the right edge before the left; the value reckoned from the operands
+-- record SUPPLIED_TWO: the right edge before the left; the value reckoned from the operands
 abbrev pub supplied-two-tried : List Tried
-supplied-two-tried = a-step (step (expr.supplied-two x0 x1 (float 9) (float 8) (float 4)) two) (recording (float 9) (to 1 (float 4) ∷ to 0 (float 8) ∷ []))
-    ∷ a-step (step (expr.supplied-two x0 x1 (float 9) (float 8) (float 4)) two) (recording (float 5) (to 0 (float 8) ∷ to 1 (float 4) ∷ [])) ∷ []
+supplied-two-tried =
+    a-step (step (operate SUPPLIED-TWO x0 x1 (given (float 9) (float 8) (float 4))) two) (recording (float 9) (to 1 (float 4) ∷ to 0 (float 8) ∷ []))
+    ∷ a-step (step (operate SUPPLIED-TWO x0 x1 (given (float 9) (float 8) (float 4))) two) (recording (float 5) (to 0 (float 8) ∷ to 1 (float 4) ∷ [])) ∷ []
 
 -- ---- wrong answers: dual
 
 -- value: a number refused 4; the value behind a handle that is not live
 abbrev pub value-tried : List Tried
 value-tried = a-step (step (value-of (plain (float 5))) (marked 2)) (refused Detached, marked 2)
-    ∷ a-step (step (value-of stale) (marked 2)) (told (float 2), marked 2) ∷ []
+    ∷ a-step (step (value-of stale) (marked 2)) (read-value (float 2), marked 2) ∷ []
 
 -- adjoint: a handle that is not live refused 4; 0.0 for a number, which is refused
 abbrev pub adjoint-tried : List Tried
 adjoint-tried = a-step (step (adjoint-of stale) (marked 2)) (refused Detached, marked 2)
-    ∷ a-step (step (adjoint-of (plain (float 5))) (marked 2)) (told nought, marked 2) ∷ []
+    ∷ a-step (step (adjoint-of (plain (float 5))) (marked 2)) (read-value nought, marked 2) ∷ []
 
 -- is_live: a refusal for a handle that is not live; a number that is live
 abbrev pub is-live-tried : List Tried
@@ -270,7 +320,8 @@ is-live-tried = a-step (step (is-live stale) (marked 2)) (refused Refusal·NotLi
 -- reset_adjoints: adjoints past the length cleared; -0.0 for +0.0
 abbrev pub reset-adjoints-tried : List Tried
 reset-adjoints-tried = a-step (step clear (marked 2)) (done, with-adjoints (marked 2) (replicate 5 nought))
-    ∷ a-step (step clear (marked 2)) (done, with-adjoints (marked 2) (replicate 4 (minus nought) ++ (float 7 ∷ []))) ∷ []
+    ∷ a-step (step clear (marked 2)) (done, with-adjoints (marked 2) (replicate 4 (minus nought) ++ (float 7 ∷ [])))
+    ∷ []
 
 -- backward: a walk from the end, wherever the root stands; the adjoints cleared first
 abbrev pub backward-tried : List Tried
@@ -279,29 +330,35 @@ backward-tried = a-step (step (pass (backward (node-at 2))) (marked 2)) (passed 
 
 -- backward_to_mark: 1.0 added to the root's adjoint; a walk that begins at the root
 abbrev pub backward-to-mark-tried : List Tried
-backward-to-mark-tried = a-step (step (pass (backward-to-mark (node-at 3))) (marked 2)) (passed (marked 2) 4 (11 ∷ 12 ∷ 3 ∷ 2 ∷ 7 ∷ []))
+backward-to-mark-tried =
+    a-step (step (pass (backward-to-mark (node-at 3))) (marked 2)) (passed (marked 2) 4 (11 ∷ 12 ∷ 3 ∷ 2 ∷ 7 ∷ []))
     ∷ a-step (step (pass (backward-to-mark (node-at 2))) (marked 2)) (passed (marked 2) 2 (5 ∷ 6 ∷ 1 ∷ 1 ∷ 7 ∷ [])) ∷ []
 
 -- backward_mark_to_start: the edges of a root past the mark walked; the node at the mark walked too
 abbrev pub backward-mark-to-start-tried : List Tried
-backward-mark-to-start-tried = a-step (step (pass (backward-mark-to-start (node-at 3))) (marked 2)) (passed (marked 2) 2 (4 ∷ 3 ∷ 2 ∷ 1 ∷ 7 ∷ []))
+backward-mark-to-start-tried =
+    a-step (step (pass (backward-mark-to-start (node-at 3))) (marked 2)) (passed (marked 2) 2 (4 ∷ 3 ∷ 2 ∷ 1 ∷ 7 ∷ []))
     ∷ a-step (step (pass (backward-mark-to-start (node-at 0))) (marked 2)) (passed (marked 2) 2 (3 ∷ 6 ∷ 1 ∷ 1 ∷ 7 ∷ [])) ∷ []
 
 -- propagate_to_mark: the nodes below the mark walked too; the range walked from its lowest index up
 abbrev pub propagate-to-mark-tried : List Tried
-propagate-to-mark-tried = a-step (step (pass propagate-to-mark) (marked 3)) (passed (marked 3) 4 (8 ∷ 9 ∷ 2 ∷ 1 ∷ 7 ∷ []))
+propagate-to-mark-tried =
+    a-step (step (pass propagate-to-mark) (marked 3)) (passed (marked 3) 4 (8 ∷ 9 ∷ 2 ∷ 1 ∷ 7 ∷ []))
     ∷ a-step (step (pass propagate-to-mark) (marked 2)) (passed (marked 2) 4 (6 ∷ 6 ∷ 2 ∷ 1 ∷ 7 ∷ [])) ∷ []
 
 -- propagate_mark_to_start: a count of 0; a count of the nodes
 abbrev pub propagate-mark-to-start-tried : List Tried
-propagate-mark-to-start-tried = a-step (step (pass propagate-mark-to-start) (marked 3)) (passed (marked 3) 0 (5 ∷ 6 ∷ 1 ∷ 1 ∷ 7 ∷ []))
+propagate-mark-to-start-tried =
+    a-step (step (pass propagate-mark-to-start) (marked 3)) (passed (marked 3) 0 (5 ∷ 6 ∷ 1 ∷ 1 ∷ 7 ∷ []))
     ∷ a-step (step (pass propagate-mark-to-start) (marked 3)) (passed (marked 3) 3 (5 ∷ 6 ∷ 1 ∷ 1 ∷ 7 ∷ [])) ∷ []
 
 -- ---- wrong answers: listing
 
--- list: bytes written where the listing does not fit; a listing refused that fits to the last byte; the bytes after it cleared; the bytes left as they were
+-- list: bytes written where the listing does not fit; a listing refused that fits to the last byte; the bytes after it
+-- cleared; the bytes left as they were
 abbrev pub list-tried : List Tried
-list-tried = a-listing (listed (marked 2) (replicate 10 120)) ((refused ListingTooLong, marked 2), take 10 (listing (marked 2)))
+list-tried =
+    a-listing (listed (marked 2) (replicate 10 120)) ((refused ListingTooLong, marked 2), take 10 (listing (marked 2)))
     ∷ a-listing (listed (marked 2) (replicate 220 120)) ((refused ListingTooLong, marked 2), replicate 220 120)
     ∷ a-listing (listed (marked 2) (replicate 221 120)) ((counted 220, marked 2), listing (marked 2) ++ (0 ∷ []))
     ∷ a-listing (listed (marked 2) (replicate 220 120)) ((counted 220, marked 2), replicate 220 120) ∷ []
@@ -325,7 +382,9 @@ passes =
 
 -- each call that changes the machine
 abbrev pub changes : List (Call floats × Machine floats)
-changes = map (λ m. (move m, kept 3 1 true)) (start ∷ stop ∷ set-mark ∷ reset-mark ∷ rewind-to-mark ∷ rewind-to-init ∷ []) ++ ((expr.mul x0 x1, two) ∷ (clear, marked 2) ∷ passes)
+changes =
+    map (λ m. (move m, kept 3 1 true)) (start ∷ stop ∷ set-mark ∷ reset-mark ∷ rewind-to-mark ∷ rewind-to-init ∷ [])
+    ++ ((binary MULTIPLY x0 x1, two) ∷ (clear, marked 2) ∷ passes)
 
 -- and those that read it
 abbrev pub readings : List (Call floats × Machine floats)
@@ -341,19 +400,22 @@ untouched-tried = map (λ (c, M). a-step (step c M) (step c M .0, M)) changes
 
 -- of a pass: the right count, and each live adjoint x
 abbrev pub each-adjoint : Float → List Tried
-each-adjoint x = map (λ (c, M). a-step (step c M) (step c M .0, with-adjoints M (replicate 4 x ++ (float 7 ∷ [])))) passes
+each-adjoint x =
+    map (λ (c, M). a-step (step c M) (step c M .0, with-adjoints M (replicate 4 x ++ (float 7 ∷ [])))) passes
 
 abbrev pub nought-or-one-tried : List Tried
 nought-or-one-tried = each-adjoint nought ++ each-adjoint one
 
 abbrev pub calls-tried : List Tried
 calls-tried =
-    number-tried ++ lookup-tried ++ new-tried ++ start-recording-tried ++ stop-recording-tried
-    ++ set-mark-tried ++ reset-mark-tried ++ rewind-to-mark-tried ++ rewind-to-init-tried ++ admits-tried
-    ++ record-tried ++ new-leaf-tried ++ put-on-tape-tried ++ add-tried ++ sub-tried
-    ++ mul-tried ++ div-tried ++ max-tried ++ min-tried ++ neg-tried
+    number-tried ++ lookup-tried ++ usable-tried ++ lengths-of-tried ++ new-tried ++ start-recording-tried
+    ++ stop-recording-tried
+    ++ set-mark-tried ++ reset-mark-tried ++ rewind-to-mark-tried ++ rewind-to-init-tried ++ admit-tried
+    ++ record-tried ++ new-leaf-tried ++ put-on-tape-tried ++ add-tried ++ subtract-tried
+    ++ multiply-tried ++ divide-tried ++ max-tried ++ min-tried ++ negate-tried
     ++ supplied-one-tried ++ supplied-two-tried ++ value-tried ++ adjoint-tried ++ is-live-tried
-    ++ reset-adjoints-tried ++ backward-tried ++ backward-to-mark-tried ++ backward-mark-to-start-tried ++ propagate-to-mark-tried
+    ++ reset-adjoints-tried ++ backward-tried ++ backward-to-mark-tried ++ backward-mark-to-start-tried
+    ++ propagate-to-mark-tried
     ++ propagate-mark-to-start-tried ++ list-tried ++ bits-of-tried ++ refuses-tried ++ untouched-tried
     ++ nought-or-one-tried
 

@@ -1,4 +1,5 @@
--- Wrong answers that the promises of crate `forward` rule out, two for each function, at an order where they show. `Tried` says what a row is; `NumbersTried` is proved in proofs/Wrong.antt, by computation.
+-- Wrong answers that the promises of crate `forward` rule out, two for each function, at an order where they show.
+-- `Tried` says what a row is; `NumbersTried` is proved in proofs/Wrong.antt, by computation.
 use Prim.Native.Nat.{ℕ}
 use mathlib.Core.Path.{_≡_}
 use mathlib.Core.Bool.{true, false}
@@ -93,45 +94,64 @@ sub-tried = at-1 (difference 1 x y) (difference 1 y x) ∷ at-1 (difference 1 x 
 abbrev pub mul-tried : List Tried
 mul-tried = at-1 (product 1 x y) (float 6, float 35) ∷ at-1 (product 1 x y) (float 6, float 21) ∷ []
 
--- div: the derivative divided by d; (bc - ad) / cc, equal in the reals and not in bits: with (1, 1) over (3, 1) that is 2/9, and (1 - 1/3) / 3 is one unit in the last place more
+-- div: the derivative divided by d; (bc - ad) / cc, equal in the reals and not in bits: with (1, 1) over (3, 1) that is
+-- 2/9, and (1 - 1/3) / 3 is one unit in the last place more
 abbrev pub div-tried : List Tried
-div-tried = at-1 (quotient 1 x y) (value 1 (quotient 1 x y), neg (quotient 0 (float 11) (float 14))) ∷ at-1 (quotient 1 (variable 1 one) (variable 1 (float 3))) (quotient 0 one (float 3), quotient 0 (float 2) (float 9)) ∷ []
+div-tried =
+    at-1 (quotient 1 x y) (value 1 (quotient 1 x y), neg (quotient 0 (float 11) (float 14)))
+    ∷ at-1 (quotient 1 (variable 1 one) (variable 1 (float 3))) (quotient 0 one (float 3), quotient 0 (float 2) (float 9)) ∷ []
 
 -- neg: the value part alone negated; 0.0 - x, which is +0.0 at +0.0
 abbrev pub neg-tried : List Tried
-neg-tried = at-1 (negation 1 x) (neg (float 3), float 5) ∷ at-1 (negation 1 (variable 1 nought)) (difference 1 (constant 1 nought) (variable 1 nought)) ∷ []
+neg-tried =
+    at-1 (negation 1 x) (neg (float 3), float 5)
+    ∷ at-1 (negation 1 (variable 1 nought)) (difference 1 (constant 1 nought) (variable 1 nought)) ∷ []
 
 -- add_f64: k added to the derivative too; the derivative dropped
 abbrev pub add-f64-tried : List Tried
-add-f64-tried = at-1 (sum-plain 1 x (float 2)) (float 5, float 7) ∷ at-1 (sum-plain 1 x (float 2)) (constant 1 (float 5)) ∷ []
+add-f64-tried =
+    at-1 (sum-plain 1 x (float 2)) (float 5, float 7) ∷ at-1 (sum-plain 1 x (float 2)) (constant 1 (float 5)) ∷ []
 
 -- sub_f64: k taken from the derivative too; k - x
 abbrev pub sub-f64-tried : List Tried
-sub-f64-tried = at-1 (difference-plain 1 x (float 2)) (float 1, float 3) ∷ at-1 (difference-plain 1 x (float 2)) (plain-difference 1 (float 2) x) ∷ []
+sub-f64-tried =
+    at-1 (difference-plain 1 x (float 2)) (float 1, float 3)
+    ∷ at-1 (difference-plain 1 x (float 2)) (plain-difference 1 (float 2) x) ∷ []
 
 -- mul_f64: the derivative not multiplied; k made a constant first, which adds 0.0 * a
 abbrev pub mul-f64-tried : List Tried
-mul-f64-tried = at-1 (product-plain 1 x (float 2)) (float 6, float 5) ∷ at-1 (product-plain 1 (float 3, neg nought) (float 2)) (product 1 (float 3, neg nought) (constant 1 (float 2))) ∷ []
+mul-f64-tried =
+    at-1 (product-plain 1 x (float 2)) (float 6, float 5)
+    ∷ at-1 (product-plain 1 (float 3, neg nought) (float 2)) (product 1 (float 3, neg nought) (constant 1 (float 2)))
+    ∷ []
 
 -- div_f64: a true division of the value; of the derivative alone
 abbrev pub div-f64-tried : List Tried
-div-f64-tried = at-1 (quotient-plain 1 (float 49, float 49) (float 49)) (one, value 1 (quotient-plain 1 (float 49, float 49) (float 49))) ∷ at-1 (quotient-plain 1 (float 49, float 49) (float 49)) (value 1 (quotient-plain 1 (float 49, float 49) (float 49)), one) ∷ []
+div-f64-tried =
+    at-1 (quotient-plain 1 (float 49, float 49) (float 49)) (one, value 1 (quotient-plain 1 (float 49, float 49) (float 49))) ∷ at-1 (quotient-plain 1 (float 49, float 49) (float 49)) (value 1 (quotient-plain 1 (float 49, float 49) (float 49)), one) ∷ []
 
 -- sub_from: the derivative not negated; (constant k) - x, whose derivative 0.0 - d has another sign at +0.0
 abbrev pub sub-from-tried : List Tried
-sub-from-tried = at-1 (plain-difference 1 (float 2) x) (neg one, float 5) ∷ at-1 (plain-difference 1 (float 2) (constant 1 (float 3))) (difference 1 (constant 1 (float 2)) (constant 1 (float 3))) ∷ []
+sub-from-tried =
+    at-1 (plain-difference 1 (float 2) x) (neg one, float 5)
+    ∷ at-1 (plain-difference 1 (float 2) (constant 1 (float 3))) (difference 1 (constant 1 (float 2)) (constant 1 (float 3))) ∷ []
 
 -- div_into: x / k; (1.0 / x) * k
 abbrev pub div-into-tried : List Tried
-div-into-tried = at-1 (plain-quotient 1 (float 6) x) (quotient-plain 1 x (float 6)) ∷ at-1 (plain-quotient 1 (float 49) (constant 1 (float 49))) (product-plain 1 (plain-quotient 1 one (constant 1 (float 49))) (float 49)) ∷ []
+div-into-tried =
+    at-1 (plain-quotient 1 (float 6) x) (quotient-plain 1 x (float 6))
+    ∷ at-1 (plain-quotient 1 (float 49) (constant 1 (float 49))) (product-plain 1 (plain-quotient 1 one (constant 1 (float 49))) (float 49)) ∷ []
 
 -- rem: the derivative kept; the divisor's sign
 abbrev pub rem-tried : List Tried
-rem-tried = at-1 (remainder 1 x y) (one, float 5) ∷ at-1 (remainder 1 (constant 1 (neg (float 3))) y) (constant 1 one) ∷ []
+rem-tried =
+    at-1 (remainder 1 x y) (one, float 5) ∷ at-1 (remainder 1 (constant 1 (neg (float 3))) y) (constant 1 one) ∷ []
 
 -- rem_f64: the derivative kept; the divisor's sign
 abbrev pub rem-f64-tried : List Tried
-rem-f64-tried = at-1 (remainder-plain 1 x (float 2)) (one, float 5) ∷ at-1 (remainder-plain 1 (constant 1 (neg (float 3))) (float 2)) (constant 1 one) ∷ []
+rem-f64-tried =
+    at-1 (remainder-plain 1 x (float 2)) (one, float 5)
+    ∷ at-1 (remainder-plain 1 (constant 1 (neg (float 3))) (float 2)) (constant 1 one) ∷ []
 
 -- abs: a NaN kept with its derivative; -0.0 turned to +0.0
 abbrev pub abs-tried : List Tried
@@ -171,7 +191,9 @@ ge-tried = a-bool (compared ge 1 x x) false ∷ a-bool (compared ge 1 x (nan, on
 
 -- partial_cmp: Equal at a NaN; -0.0 below +0.0
 abbrev pub partial-cmp-tried : List Tried
-partial-cmp-tried = an-ordering (compared comparison 1 x (nan, one)) Equal ∷ an-ordering (compared comparison 1 (neg nought, one) (nought, one)) Less ∷ []
+partial-cmp-tried =
+    an-ordering (compared comparison 1 x (nan, one)) Equal
+    ∷ an-ordering (compared comparison 1 (neg nought, one) (nought, one)) Less ∷ []
 
 -- eq_f64: k compared with the derivative; two NaNs equal
 abbrev pub eq-f64-tried : List Tried
@@ -199,7 +221,9 @@ ge-f64-tried = a-bool (compared-plain ge 1 x (float 4)) true ∷ a-bool (compare
 
 -- partial_cmp_f64: Equal at a NaN; the sides exchanged
 abbrev pub partial-cmp-f64-tried : List Tried
-partial-cmp-f64-tried = an-ordering (compared-plain comparison 1 x nan) Equal ∷ an-ordering (compared-plain comparison 1 x (float 2)) Less ∷ []
+partial-cmp-f64-tried =
+    an-ordering (compared-plain comparison 1 x nan) Equal ∷ an-ordering (compared-plain comparison 1 x (float 2)) Less
+    ∷ []
 
 -- of: Equal at a NaN; -0.0 below +0.0
 abbrev pub of-tried : List Tried
@@ -208,7 +232,8 @@ of-tried = an-ordering (comparison nan nan) Equal ∷ an-ordering (comparison (n
 abbrev pub numbers-tried : List Tried
 numbers-tried =
     constant-tried ++ var-tried ++ zero-tried ++ one-tried ++ value-tried ++ first-derivative-tried
-    ++ second-derivative-tried ++ third-derivative-tried ++ fourth-derivative-tried ++ add-tried ++ sub-tried ++ mul-tried
+    ++ second-derivative-tried ++ third-derivative-tried ++ fourth-derivative-tried ++ add-tried ++ sub-tried
+    ++ mul-tried
     ++ div-tried ++ neg-tried ++ add-f64-tried ++ sub-f64-tried ++ mul-f64-tried ++ div-f64-tried
     ++ sub-from-tried ++ div-into-tried ++ rem-tried ++ rem-f64-tried ++ abs-tried ++ max-val-tried
     ++ min-val-tried ++ eq-tried ++ ne-tried ++ lt-tried ++ le-tried ++ gt-tried

@@ -13,7 +13,7 @@ use lib.Ieee.{Float, nan, binary64, add, mul}
 use lib.ListN.{length, getD, set, drop, replicate, length-set, length-replicate}
 use lib.Seq.{sets, sets-eq}
 use Rattle.tape.specs.Numbers.{floats}
-use Rattle.tape.specs.Machine.{Arrays, slot, all}
+use Rattle.tape.specs.Machine.{Arrays, slot, all, most-nodes, most-edges}
 use Rattle.tape.specs.Walk.{Edge, push, walk, edges-from, edges-at, indexes, visited, sound}
 use Rattle.tape.proofs.Passes.{walk-cut, visited-cut}
 use Rattle.tape.proofs.Ranges.{less-one, nothing-left, indexes-first}
@@ -75,13 +75,13 @@ slots-below : (i : ℕ) (cs : List ℕ) (s k : ℕ) → ((leb k 2 && (ltb k 1 ||
 slots-below i cs s zero = refl
 slots-below i cs s (suc zero) = refl
 slots-below i cs s (suc (suc zero)) = rw (add-one s, and-true (ltb (getD cs (suc s) 0) i))
-slots-below i cs s (suc (suc (suc k))) = rw (lt-leb (suc (suc (suc k))) 2 (omega arith))
+slots-below i cs s (suc (suc (suc k))) = rw (lt-leb (suc (suc (suc k))) most-edges (omega arith))
 
 -- as the code asks it, of both slots at once
 pub both-slots : (counts children : List ℕ) (i : ℕ) → let k = getD counts i 0 in ((leb k 2 && (ltb k 1 || ltb (getD children (slot i) 0) i)) && (ltb k 2 || ltb (getD children (slot i + 1) 0) i)) ≡ sound-edges counts children i
 both-slots counts children i = slots-below i children (slot i) (getD counts i 0)
 
-pub by-edges : (counts children : List ℕ) (i : ℕ) → getD counts i 0 ≤ 2 → sound-edges counts children i ≡ below-between i children (slot i) (slot i + getD counts i 0)
+pub by-edges : (counts children : List ℕ) (i : ℕ) → getD counts i 0 ≤ most-edges → sound-edges counts children i ≡ below-between i children (slot i) (slot i + getD counts i 0)
 by-edges counts children i h =
     let k : slot i + getD counts i 0 - slot i ≡ getD counts i 0 = omega arith in
     rw (le-leb _ _ h, k)
@@ -127,9 +127,9 @@ pub record Pushing (i : ℕ) (children : List ℕ) (partials : List Float) (a : 
   pub children-held : end ≤ length children
   pub partials-held : end ≤ length partials
   pub node : i < length now
-  pub small : end ≤ 131070
+  pub small : end ≤ slot most-nodes
 
-pub few-edges : (counts children : List ℕ) (i : ℕ) → sound-edges counts children i ≡ true → getD counts i 0 ≤ 2
+pub few-edges : (counts children : List ℕ) (i : ℕ) → sound-edges counts children i ≡ true → getD counts i 0 ≤ most-edges
 few-edges counts children i e = leb-true _ _ (and-eq-true-iff (leb (getD counts i 0) 2) _ .0 e .0)
 
 pub pushing : (i : ℕ) (counts children : List ℕ) (partials : List Float) (a : Float) (before : List Float) → NodeRoom i before counts children partials → Pushing i children partials a (slot i) (slot i + getD counts i 0) before (slot i) before
@@ -186,7 +186,7 @@ module _ (span : Span) (counts children : List ℕ) (partials before : List Floa
   pub record Walking (i visits : ℕ) (now : List Float) : Type 0 where
     pub top : i ≤ span .end
     pub size : length now ≡ length before
-    pub few : visits ≤ 2 * (span .end - i)
+    pub few : visits ≤ most-edges * (span .end - i)
     pub count : visits + counted-below i ≡ counted-below (span .end)
     pub rest : down-from i now ≡ down-from (span .end) before
 

@@ -7,7 +7,7 @@ use Rattle.tape.specs.Numbers.{floats}
 use Rattle.tape.specs.Machine.{Machine}
 use Rattle.tape.specs.Answers.{Answer}
 use Rattle.tape.proofs.OneToOne.{by-number, at-refusal}
-use Rattle.dual.specs.Outcome.{heard, found, reset, passed-back, Told}
+use Rattle.dual.specs.Outcome.{read-outcome, liveness-outcome, cleared-outcome, pass-outcome, OneToOne}
 use Rattle.dual.specs.declared.reading.Read as read
 use Rattle.dual.specs.declared.reading.Liveness as liveness
 use Rattle.dual.specs.declared.clearing.Cleared as cleared
@@ -18,47 +18,47 @@ read-back : {X : Type 0} (tell : X → Machine floats → Answer floats × Machi
     → (x y : X) (M K : Machine floats) → tell x M ≡ tell y K → (x ≡ y) × (M ≡ K)
 read-back tell meant back left x y M K e = (sym (back x M) ∙ ap (λ o. meant (o .0)) e ∙ back y K, sym (left x M) ∙ ap (λ o. o .1) e ∙ left y K)
 
-heard-back : (x : read.Read) (M : Machine floats) → by-number (read.the-variants.Number (heard x M .0 .value)) read.the-variants.Refused (heard x M .0 .number) ≡ x
+heard-back : (x : read.Read) (M : Machine floats) → by-number (read.the-variants.Number (read-outcome x M .0 .value)) read.the-variants.Refused (read-outcome x M .0 .number) ≡ x
 heard-back (read.the-variants.Number v) M = refl
 heard-back (read.the-variants.Refused r) M = at-refusal _ read.the-variants.Refused r
 
-heard-left : (x : read.Read) (M : Machine floats) → heard x M .1 ≡ M
+heard-left : (x : read.Read) (M : Machine floats) → read-outcome x M .1 ≡ M
 heard-left (read.the-variants.Number v) M = refl
 heard-left (read.the-variants.Refused r) M = refl
 
 abbrev of-count : ℕ → liveness.Liveness
 of-count k = getD (liveness.the-variants.NotLive ∷ []) k liveness.the-variants.Live
 
-found-back : (x : liveness.Liveness) (M : Machine floats) → by-number (of-count (found x M .0 .count)) liveness.the-variants.Refused (found x M .0 .number) ≡ x
+found-back : (x : liveness.Liveness) (M : Machine floats) → by-number (of-count (liveness-outcome x M .0 .count)) liveness.the-variants.Refused (liveness-outcome x M .0 .number) ≡ x
 found-back liveness.the-variants.Live M = refl
 found-back liveness.the-variants.NotLive M = refl
 found-back (liveness.the-variants.Refused r) M = at-refusal _ liveness.the-variants.Refused r
 
-found-left : (x : liveness.Liveness) (M : Machine floats) → found x M .1 ≡ M
+found-left : (x : liveness.Liveness) (M : Machine floats) → liveness-outcome x M .1 ≡ M
 found-left liveness.the-variants.Live M = refl
 found-left liveness.the-variants.NotLive M = refl
 found-left (liveness.the-variants.Refused r) M = refl
 
-reset-back : (x : cleared.Cleared) (M : Machine floats) → by-number cleared.the-variants.Done cleared.the-variants.Refused (reset x M .0 .number) ≡ x
+reset-back : (x : cleared.Cleared) (M : Machine floats) → by-number cleared.the-variants.Done cleared.the-variants.Refused (cleared-outcome x M .0 .number) ≡ x
 reset-back cleared.the-variants.Done M = refl
 reset-back (cleared.the-variants.Refused r) M = at-refusal _ cleared.the-variants.Refused r
 
-reset-left : (x : cleared.Cleared) (M : Machine floats) → reset x M .1 ≡ M
+reset-left : (x : cleared.Cleared) (M : Machine floats) → cleared-outcome x M .1 ≡ M
 reset-left cleared.the-variants.Done M = refl
 reset-left (cleared.the-variants.Refused r) M = refl
 
-passed-back-back : (x : passed.Passed) (M : Machine floats) → by-number (passed.the-variants.Visited (passed-back x M .0 .count)) passed.the-variants.Refused (passed-back x M .0 .number) ≡ x
+passed-back-back : (x : passed.Passed) (M : Machine floats) → by-number (passed.the-variants.Visited (pass-outcome x M .0 .count)) passed.the-variants.Refused (pass-outcome x M .0 .number) ≡ x
 passed-back-back (passed.the-variants.Visited n) M = refl
 passed-back-back (passed.the-variants.Refused r) M = at-refusal _ passed.the-variants.Refused r
 
-passed-back-left : (x : passed.Passed) (M : Machine floats) → passed-back x M .1 ≡ M
+passed-back-left : (x : passed.Passed) (M : Machine floats) → pass-outcome x M .1 ≡ M
 passed-back-left (passed.the-variants.Visited n) M = refl
 passed-back-left (passed.the-variants.Refused r) M = refl
 
-pub told : Told
-told = record {
-  heard = read-back heard (λ a. by-number (read.the-variants.Number (a .value)) read.the-variants.Refused (a .number)) heard-back heard-left;
-  found = read-back found (λ a. by-number (of-count (a .count)) liveness.the-variants.Refused (a .number)) found-back found-left;
-  reset = read-back reset (λ a. by-number cleared.the-variants.Done cleared.the-variants.Refused (a .number)) reset-back reset-left;
-  passed-back = read-back passed-back (λ a. by-number (passed.the-variants.Visited (a .count)) passed.the-variants.Refused (a .number)) passed-back-back passed-back-left;
+pub one-to-one : OneToOne
+one-to-one = record {
+  read-outcome = read-back read-outcome (λ a. by-number (read.the-variants.Number (a .value)) read.the-variants.Refused (a .number)) heard-back heard-left;
+  liveness-outcome = read-back liveness-outcome (λ a. by-number (of-count (a .count)) liveness.the-variants.Refused (a .number)) found-back found-left;
+  cleared-outcome = read-back cleared-outcome (λ a. by-number cleared.the-variants.Done cleared.the-variants.Refused (a .number)) reset-back reset-left;
+  pass-outcome = read-back pass-outcome (λ a. by-number (passed.the-variants.Visited (a .count)) passed.the-variants.Refused (a .number)) passed-back-back passed-back-left;
 }

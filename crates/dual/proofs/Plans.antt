@@ -1,32 +1,37 @@
--- What planning comes to: by the root that was found and the test of the range, the step of the pass.
-use Prim.Native.Nat.{ℕ, _≤_, _<_}
-use native.Mathlib.Nat.{le-refl}
+-- What planning comes to: by the root that was found and the test of the range, the first refusal of the table or the
+-- plan.
+use Prim.Native.Nat.{ℕ, _≤_}
 use native.Mathlib.Omega.{arith}
 use mathlib.Core.Path.{_≡_, refl, sym, ap, subst, _∙_}
-use mathlib.Core.Bool.{Bool, true, false, _&&_, cond}
+use mathlib.Core.Bool.{Bool, true, false, not, _&&_, cond}
 use mathlib.Core.List.{List, [], _∷_, map}
+use mathlib.Core.Option.{Option, none, some}
 use lib.Dec.{leb}
-use lib.Ieee.{Float}
 use lib.ListN.{getD}
 use Rattle.tape.specs.Numbers.{floats}
-use Rattle.tape.specs.Machine.{Arrays, Machine, slot, fits, all}
-use Rattle.tape.specs.Handles.{plain, node, live, handles, any-plain}
+use Rattle.tape.specs.Machine.{Arrays, Machine, most-edges, most-nodes, slot, all}
+use Rattle.tape.specs.Admission.{admitted, let-in, when}
+use Rattle.tape.specs.Handles.{Operand, plain, node, operand, live, amiss, handles, any-plain}
 use Rattle.tape.specs.Walk.{sound}
-use Rattle.tape.specs.Answers.{refused}
-use Rattle.tape.specs.Calls.{Pass as Pass′, backward, backward-to-mark, backward-mark-to-start, propagate-to-mark, propagate-mark-to-start, pass, plan, range, any-stale, carried, step}
+use Rattle.tape.specs.Calls.{Pass as Pass′, backward, backward-to-mark, backward-mark-to-start, pass, Plan, past, plan, range, carried}
+use Rattle.tape.specs.Refusals.{first-amiss, first, refusal-of}
+use Rattle.tape.specs.Steps.{unless, step}
+use Rattle.tape.specs.declared.admission.Caller.the-variants as caller
 use Rattle.tape.specs.declared.errors.Refusal.{Refusal}
-use Rattle.tape.specs.declared.errors.Refusal.the-variants.{NotLive, Detached, UnsoundEdge}
+use Rattle.tape.specs.declared.errors.Refusal.the-variants.{Detached, UnsoundEdge}
 use Rattle.tape.specs.declared.node.Handle.{Handle}
-use Rattle.tape.specs.declared.node.Operand.the-variants.{Number, Node}
-use Rattle.tape.proofs.Steps.{lives-told}
-use Rattle.tape.proofs.Tests.{Fit, fit, by-test}
-use Rattle.dual.specs.Inner.{pass-of, found-root, span-of, inside, all-sound, sound-edges, carried-out, Within, Walkable, Ready}
+use Rattle.tape.specs.declared.node.Usable.the-variants as usable
+use Rattle.tape.proofs.Passes.{ends}
+use Rattle.tape.proofs.Steps.{Passed, shape, all-live, sound-range, granted-shape, first-live}
+use Rattle.tape.proofs.Tests.{Fit, fit}
+use Rattle.dual.specs.Inner.{pass-of, root-by, root-if, found-root, root-of, planned, span-of, inside, all-sound, sound-edges, carried-out, Below, Within, Ready}
+use Rattle.dual.specs.declared.planning.Found.{Found}
+use Rattle.dual.specs.declared.planning.Found.the-variants as found
 use Rattle.dual.specs.declared.planning.Pass.{Pass}
 use Rattle.dual.specs.declared.planning.Pass.the-variants.{Backward, BackwardToMark, BackwardMarkToStart, PropagateToMark, PropagateMarkToStart}
 use Rattle.dual.specs.declared.planning.Planned.{Planned}
-use Rattle.dual.specs.declared.planning.Planned.the-variants.{Refused, Rooted, Unrooted}
+use Rattle.dual.specs.declared.planning.Planned.the-variants.{Refused, Walk}
 use Rattle.dual.specs.declared.planning.Root.{Root}
-use Rattle.dual.specs.declared.planning.Root.the-variants as root
 use Rattle.dual.specs.declared.planning.Span.{Span}
 use Rattle.dual.proofs.Loops.{below-any}
 
@@ -38,135 +43,156 @@ same-tests f g e (i ∷ is) = rw (e i, same-tests f g e is)
 
 -- soundness asks nothing of the partials
 sound-so : (A : Arrays floats) (s : Span) → all-sound (A .count) (A .child) s ≡ all (map (sound A) (inside s))
-sound-so A s = same-tests (sound-edges (A .count) (A .child)) (sound A) (λ i. ap (λ b. leb (getD (A .count) i 0) 2 && b) (below-any i (A .child) [] (A .partial) (slot i) (getD (A .count) i 0))) (inside s)
+sound-so A s = same-tests (sound-edges (A .count) (A .child)) (sound A) (λ i. ap (λ b. leb (getD (A .count) i 0) most-edges && b) (below-any i (A .child) [] (A .partial) (slot i) (getD (A .count) i 0))) (inside s)
 
--- ---- the root
+-- ---- the plan that the code comes to
 
--- what follows from the root that was found
-abbrev pub by-root : (Handle → Planned) → Planned → Root → Planned
-by-root at-node at-none (root.Refused r) = Refused r
-by-root at-node at-none root.None = at-none
-by-root at-node at-none (root.At h) = at-node h
+-- by the root that was found
+abbrev by-found : (Root → Planned) → Found → Planned
+by-found walks (found.Refused r) = Refused r
+by-found walks (found.Root root) = walks root
 
-pub none-sound : {r : Root} → r ≡ root.None → (k : Refusal) → r ≡ root.Refused k → ⊥
-none-sound e k f = let z : _≡_ {A = ℕ} 0 1 = cc in omega arith
+-- and the test of the range
+abbrev tested : Bool → Span → Root → Planned
+tested sound s root = cond sound (Walk root s) (Refused UnsoundEdge)
 
-pub node-sound : {r : Root} (h : Handle) → r ≡ root.At h → (k : Refusal) → r ≡ root.Refused k → ⊥
-node-sound h e k f = let z : _≡_ {A = ℕ} 0 1 = cc in omega arith
+-- the table, as a pass meets it: by the admission, a root that is not live, one that is a number, and the range
+abbrev table : Option Refusal → Option Refusal → Bool → Bool → List (Option Refusal)
+table o amiss number sound = o ∷ none ∷ amiss ∷ when number Detached ∷ none ∷ none ∷ when (not sound) UnsoundEdge ∷ none ∷ []
 
-by-life : {P : Type 0} (b : Bool) → (b ≡ true → P) → (b ≡ false → P) → P
-by-life true f g = f refl
-by-life false f g = g refl
+only-range : (sound : Bool) (P : Plan floats) → tested sound (span-of P) (root-of (P .root)) ≡ planned (first (table none none false sound)) P
+only-range true P = refl
+only-range false P = refl
 
--- ---- the plan
+by-life : (b sound : Bool) (r : Refusal) (h : Handle) (from end : ℕ) → let P : Plan floats = record { root = node h ∷ []; from = from; end = end } in
+    by-found (tested sound (span-of P)) (root-by (cond b usable.Live (usable.Refused r)) h) ≡ planned (first (table none (cond b none (some r)) false sound)) P
+by-life true sound r h from end = only-range sound _
+by-life false sound r h from end = refl
 
-module _ (M : Machine floats) (shape : fits true M ≡ true) where
+module _ (M : Machine floats) where
+  abbrev pub roots : Pass → Found
+  roots which = found-root (M .state) (M .lent .serial) (plan (pass-of which) (M .state) .root)
+
   abbrev pub span : Pass → Span
   span which = span-of (plan (pass-of which) (M .state))
 
-  abbrev pub roots : Pass → Root
-  roots which = found-root (M .state .length) (M .lent .serial) (plan (pass-of which) (M .state) .root)
+  -- what the code comes to, over whatever the admission says
+  abbrev coded : Option Refusal → Bool → Plan floats → Planned
+  coded o sound P = by-found (tested sound (span-of P)) (root-if (admitted o) (found-root (M .state) (M .lent .serial) (P .root)))
 
-  -- a range that ends at or below the length can be tested
-  pub within : (s : Span) → s .end ≤ M .state .length → Within s (M .lent .count) (M .lent .child)
-  within s h = let f : Fit M = fit M shape in record { small = omega arith; count = omega arith; child = omega arith }
+  rooted : (o : Option Refusal) (sound : Bool) (x : Operand floats) (from end : ℕ) → let P : Plan floats = record { root = x ∷ []; from = from; end = end } in
+      coded o sound P ≡ planned (first (table o (first-amiss M (handles (x ∷ []))) (any-plain (x ∷ [])) sound)) P
+  rooted (some r) sound x from end = refl
+  rooted none sound (plain v) from end = refl
+  rooted none sound (node h) from end = by-life (live M h) sound (amiss (M .state) h) h from end
 
-  -- and walked, if it is sound
-  walkable : (s : Span) → s .end ≤ M .state .length → all-sound (M .lent .count) (M .lent .child) s ≡ true → Walkable s (M .lent .adjoint) (M .lent .count) (M .lent .child) (M .lent .partial)
-  walkable s h e = let f : Fit M = fit M shape in record { within = within s h; adjoint = omega arith; partial = omega arith; sound = e }
+  unrooted : (o : Option Refusal) (sound : Bool) (from end : ℕ) → let P : Plan floats = record { root = []; from = from; end = end } in
+      coded o sound P ≡ planned (first (table o none false sound)) P
+  unrooted (some r) sound from end = refl
+  unrooted none sound from end = only-range sound _
 
-  marked : M .state .mark ≤ M .state .length
-  marked = fit M shape .state .mark
+  abbrev sounds : Pass → Bool
+  sounds which = all (map (sound (M .lent)) (range (plan (pass-of which) (M .state))))
 
-  -- a range ends at or below the length, unless its root is amiss
-  range-end : (which : Pass) → ((r : Refusal) → roots which ≡ root.Refused r → ⊥) → span which .end ≤ M .state .length
-  range-end (Backward (Number v)) sound = absurd (sound Detached refl)
-  range-end (Backward (Node h)) sound = by-life (live M h) (λ t. let l = lives-told _ (M .lent .serial) h t .below in omega arith) (λ f. absurd (sound NotLive (rw f)))
-  range-end (BackwardToMark x) sound = le-refl _
-  range-end (BackwardMarkToStart x) sound = marked
-  range-end PropagateToMark sound = le-refl _
-  range-end PropagateMarkToStart sound = marked
+  coded-so : (which : Pass) → let P = plan (pass-of which) (M .state) in coded (let-in caller.Passing M) (sounds which) P ≡ planned (refusal-of (pass (pass-of which)) M) P
+  coded-so (Backward x) = rooted (let-in caller.Passing M) (sounds (Backward x)) (operand x) 0 (past (operand x))
+  coded-so (BackwardToMark x) = rooted (let-in caller.Passing M) (sounds (BackwardToMark x)) (operand x) (M .state .mark) (M .state .length)
+  coded-so (BackwardMarkToStart x) = rooted (let-in caller.Passing M) (sounds (BackwardMarkToStart x)) (operand x) 0 (M .state .mark)
+  coded-so PropagateToMark = unrooted (let-in caller.Passing M) (sounds PropagateToMark) (M .state .mark) (M .state .length)
+  coded-so PropagateMarkToStart = unrooted (let-in caller.Passing M) (sounds PropagateMarkToStart) 0 (M .state .mark)
 
-  -- carried out, the plan is the pass; and it can be carried out
-  abbrev pub Settles : Pass′ floats → Planned → Type 0
-  Settles p z = (carried-out z M ≡ step (pass p) M) × Ready z (M .lent .adjoint) (M .lent .count) (M .lent .child) (M .lent .partial)
+  -- ---- a plan that is not refused can be carried out
 
-  abbrev pub tested : Span → Planned → Planned
-  tested s z = cond (all-sound (M .lent .count) (M .lent .child) s) z (Refused UnsoundEdge)
+  root-below : (rs : List (Operand floats)) → Fit M → first-amiss M (handles rs) ≡ none → Below (root-of rs) (M .lent .adjoint)
+  root-below [] f e = tt
+  root-below (plain x ∷ rs) f e = tt
+  root-below (node h ∷ rs) f e = let l = first-live M h (handles rs) e .0 in omega arith
 
-  module _ (p : Pass′ floats) where
-    -- nothing is amiss with the root: the range decides
-    step-tested : any-stale M (handles (plan p (M .state) .root)) ≡ false → any-plain (plan p (M .state) .root) ≡ false → (b : Bool) → all (map (sound (M .lent)) (range (plan p (M .state)))) ≡ b
-        → step (pass p) M ≡ cond b (carried (pass p) M) (refused UnsoundEdge, M)
-    unfolding step
-    step-tested live there true e = rw (shape, live, there, e)
-    step-tested live there false e = rw (shape, live, there, e)
+  pub ready-so : (p : Pass′ floats) → Ready (planned (refusal-of (pass p) M) (plan p (M .state))) (M .lent .adjoint) (M .lent .count) (M .lent .child) (M .lent .partial)
+  ready-so p = by-cases (refusal-of (pass p) M) refl where
+    by-cases : (o : Option Refusal) → refusal-of (pass p) M ≡ o → Ready (planned o (plan p (M .state))) (M .lent .adjoint) (M .lent .count) (M .lent .child) (M .lent .partial)
+    by-cases (some r) e = tt
+    by-cases none e =
+        let passed : Passed (pass p) M = record { none-refuses = e } in
+        let f : Fit M = fit M (shape passed) in
+        let end : plan p (M .state) .end ≤ M .state .length = ends p M f (all-live passed) in (
+          root-below (plan p (M .state) .root) f (all-live passed),
+          record {
+            within = record { small = omega arith; count = omega arith; child = omega arith };
+            adjoint = omega arith;
+            partial = omega arith;
+            sound = sound-so (M .lent) (span-of (plan p (M .state))) ∙ sound-range passed;
+          },
+        )
 
-    settles-tested : (z : Planned) → any-stale M (handles (plan p (M .state) .root)) ≡ false → any-plain (plan p (M .state) .root) ≡ false → carried-out z M ≡ carried (pass p) M
-        → (all-sound (M .lent .count) (M .lent .child) (span-of (plan p (M .state))) ≡ true → Ready z (M .lent .adjoint) (M .lent .count) (M .lent .child) (M .lent .partial))
-        → Settles p (tested (span-of (plan p (M .state))) z)
-    settles-tested z live there same ready =
-        let s = span-of (plan p (M .state)) in
-        by-test
-        (Settles p)
-        (all-sound (M .lent .count) (M .lent .child) s)
-        (λ t. (same ∙ sym (step-tested live there true (sym (sound-so (M .lent) s) ∙ t)), ready t))
-        (λ f. (sym (step-tested live there false (sym (sound-so (M .lent) s) ∙ f)), tt))
+  -- carried out, it is the pass
+  pub carries : (which : Pass) → carried-out (planned (refusal-of (pass (pass-of which)) M) (plan (pass-of which) (M .state))) M ≡ step (pass (pass-of which)) M
+  unfolding step
+  carries which = by-pass which (refusal-of (pass (pass-of which)) M) where
+    by-root : (x : Operand floats) (p : Pass′ floats) (from end : ℕ) → plan p (M .state) ≡ record { root = x ∷ []; from = from; end = end } → (o : Option Refusal) → carried-out (planned o (plan p (M .state))) M ≡ unless o M (carried (pass p) M)
+    by-root x p from end e (some r) = refl
+    by-root (plain v) p from end e none = rw e
+    by-root (node h) p from end e none = rw e
 
-    refuses-plain : (v : Float) → plan p (M .state) .root ≡ plain v ∷ [] → Settles p (Refused Detached)
-    unfolding step
-    refuses-plain v e = (rw (shape, e), tt)
+    by-pass : (which : Pass) (o : Option Refusal) → carried-out (planned o (plan (pass-of which) (M .state))) M ≡ unless o M (carried (pass (pass-of which)) M)
+    by-pass (Backward x) o = by-root (operand x) (backward (operand x)) 0 (past (operand x)) refl o
+    by-pass (BackwardToMark x) o = by-root (operand x) (backward-to-mark (operand x)) (M .state .mark) (M .state .length) refl o
+    by-pass (BackwardMarkToStart x) o = by-root (operand x) (backward-mark-to-start (operand x)) 0 (M .state .mark) refl o
+    by-pass PropagateToMark none = refl
+    by-pass PropagateToMark (some r) = refl
+    by-pass PropagateMarkToStart none = refl
+    by-pass PropagateMarkToStart (some r) = refl
 
-    refuses-stale : (h : Handle) → plan p (M .state) .root ≡ node h ∷ [] → live M h ≡ false → Settles p (Refused NotLive)
-    unfolding step
-    refuses-stale h e dead = (rw (shape, e, dead), tt)
+-- ---- place by place, as the code goes: r is what it found
 
-    node-tested : (h : Handle) → plan p (M .state) .root ≡ node h ∷ [] → let s = span-of (plan p (M .state)) in carried-out (Rooted h s) M ≡ carried (pass p) M → (h .index < M .state .length → s .end ≤ M .state .length) → live M h ≡ true
-        → Settles p (tested s (Rooted h s))
-    node-tested h e same end alive =
-        let s = span-of (plan p (M .state)) in
-        let below = lives-told (M .state .length) (M .lent .serial) h alive .below in
-        let f : Fit M = fit M shape in
-        settles-tested (Rooted h s) (rw (e, alive)) (rw e) same (λ t. (omega arith, walkable s (end below) t))
+not-root : {P : Type 0} {k : Refusal} {root : Root} → found.Refused k ≡ found.Root root → P
+not-root e = let z : _≡_ {A = ℕ} 0 1 = cc in absurd (omega arith)
 
-    by-node : (at-node : Handle → Planned) (at-none : Planned) (h : Handle) → plan p (M .state) .root ≡ node h ∷ [] → (live M h ≡ true → Settles p (at-node h)) → Settles p (by-root at-node at-none (cond (live M h) (root.At h) (root.Refused NotLive)))
-    by-node at-node at-none h e if-live = by-test (λ r. Settles p (by-root at-node at-none r)) (live M h) if-live (refuses-stale h e)
+module _ (M : Machine floats) (which : Pass) (r : Found) (is-found : r ≡ root-if (admitted (let-in caller.Passing M)) (roots M which)) where
+  pub refuses : (k : Refusal) → r ≡ found.Refused k → Refused k ≡ planned (refusal-of (pass (pass-of which)) M) (plan (pass-of which) (M .state))
+  refuses k e = ap (by-found (tested (sounds M which) (span M which))) (sym e ∙ is-found) ∙ coded-so M which
 
-  -- what the code comes to
-  abbrev pub planned : Pass → Root → Planned
-  planned which r = by-root (λ h. tested (span which) (Rooted h (span which))) (tested (span which) (Unrooted (span which))) r
+  -- a root was found, or none is there: then the pass was let in, and the root is live
+  module _ (root : Root) (e : r ≡ found.Root root) where
+    let-in-so : let-in caller.Passing M ≡ none
+    let-in-so = by-cases (let-in caller.Passing M) refl where
+      by-cases : (o : Option Refusal) → let-in caller.Passing M ≡ o → let-in caller.Passing M ≡ none
+      by-cases none k = k
+      by-cases (some q) k = not-root (sym (is-found ∙ ap (λ o. root-if (admitted o) (roots M which)) k) ∙ e)
 
-  pub planned-so : (which : Pass) → Settles (pass-of which) (planned which (roots which))
-  planned-so (Backward (Number v)) = refuses-plain (backward (plain v)) v refl
-  planned-so (BackwardToMark (Number v)) = refuses-plain (backward-to-mark (plain v)) v refl
-  planned-so (BackwardMarkToStart (Number v)) = refuses-plain (backward-mark-to-start (plain v)) v refl
-  planned-so (Backward (Node h)) = by-node (backward (node h)) _ _ h refl (node-tested (backward (node h)) h refl refl (λ l. omega arith))
-  planned-so (BackwardToMark (Node h)) = by-node (backward-to-mark (node h)) _ _ h refl (node-tested (backward-to-mark (node h)) h refl refl (λ _. le-refl _))
-  planned-so (BackwardMarkToStart (Node h)) = by-node (backward-mark-to-start (node h)) _ _ h refl (node-tested (backward-mark-to-start (node h)) h refl refl (λ _. marked))
-  planned-so PropagateToMark = settles-tested propagate-to-mark (Unrooted _) refl refl refl (walkable _ (le-refl _))
-  planned-so PropagateMarkToStart = settles-tested propagate-mark-to-start (Unrooted _) refl refl refl (walkable _ marked)
+    live-so : first-amiss M (handles (plan (pass-of which) (M .state) .root)) ≡ none
+    live-so = by-pass which (sym (is-found ∙ ap (λ o. root-if (admitted o) (roots M which)) let-in-so) ∙ e) where
+      alive : (b : Bool) (q : Refusal) (h : Handle) → root-by (cond b usable.Live (usable.Refused q)) h ≡ found.Root root → cond b none (some q) ≡ none
+      alive true q h e = refl
+      alive false q h e = not-root e
 
--- ---- place by place, as the code goes: r is the root that it found, s the range
+      of-operand : (x : Operand floats) → found-root (M .state) (M .lent .serial) (x ∷ []) ≡ found.Root root → first-amiss M (handles (x ∷ [])) ≡ none
+      of-operand (plain v) e = refl
+      of-operand (node h) e = alive (live M h) (amiss (M .state) h) h e
 
-module _ (M : Machine floats) (shape : fits true M ≡ true) (which : Pass) (r : Root) (found : r ≡ roots M shape which) where
-  settled : Settles M shape (pass-of which) (planned M shape which r)
-  settled = subst (λ r. Settles M shape (pass-of which) (planned M shape which r)) (sym found) (planned-so M shape which)
+      by-pass : (which : Pass) → roots M which ≡ found.Root root → first-amiss M (handles (plan (pass-of which) (M .state) .root)) ≡ none
+      by-pass (Backward x) e = of-operand (operand x) e
+      by-pass (BackwardToMark x) e = of-operand (operand x) e
+      by-pass (BackwardMarkToStart x) e = of-operand (operand x) e
+      by-pass PropagateToMark e = refl
+      by-pass PropagateMarkToStart e = refl
 
-  pub refuses : (k : Refusal) → r ≡ root.Refused k → Settles M shape (pass-of which) (Refused k)
-  refuses k e = subst (λ r. Settles M shape (pass-of which) (planned M shape which r)) e settled
+    fits-so : Fit M
+    fits-so = fit M (granted-shape caller.Passing M let-in-so)
 
-  -- the root is not refused
-  module _ (sound : (k : Refusal) → r ≡ root.Refused k → ⊥) where
-    ends : span M shape which .end ≤ M .state .length
-    ends = range-end M shape which (λ k e. sound k (found ∙ e))
+    end-below : span M which .end ≤ M .state .length
+    end-below = ends (pass-of which) M fits-so live-so
 
-    pub end-small : span M shape which .end ≤ 65535
-    end-small = let f : Fit M = fit M shape in omega (arith, ends)
+    pub end-small : span M which .end ≤ most-nodes
+    end-small = let f : Fit M = fits-so in omega (arith, end-below)
 
-    pub range-within : (s : Span) → s ≡ span M shape which → Within s (M .lent .count) (M .lent .child)
-    range-within s same = subst (λ s. Within s (M .lent .count) (M .lent .child)) (sym same) (within M shape _ ends)
+    pub range-within : (s : Span) → s ≡ span M which → Within s (M .lent .count) (M .lent .child)
+    range-within s same = let f : Fit M = fits-so in let end = end-below in subst (λ s. Within s (M .lent .count) (M .lent .child)) (sym same) (record { small = omega arith; count = omega arith; child = omega arith })
 
-  pub settled-by : (q : Root) → r ≡ q → (s : Span) → s ≡ span M shape which → (z : Planned) → z ≡ by-root (λ h. tested M shape s (Rooted h s)) (tested M shape s (Unrooted s)) q → Settles M shape (pass-of which) z
-  settled-by q e s same z made =
-      let here = subst (λ r. Settles M shape (pass-of which) (planned M shape which r)) e settled in
-      subst (Settles M shape (pass-of which)) (ap (λ s. by-root (λ h. tested M shape s (Rooted h s)) (tested M shape s (Unrooted s)) q) (sym same) ∙ sym made) here
+    pub plans : (s : Span) → s ≡ span M which → (z : Planned) → z ≡ tested (all-sound (M .lent .count) (M .lent .child) s) s root → z ≡ planned (refusal-of (pass (pass-of which)) M) (plan (pass-of which) (M .state))
+    plans s same z made =
+        made
+        ∙ ap (λ s. tested (all-sound (M .lent .count) (M .lent .child) s) s root) same
+        ∙ ap (λ b. tested b (span M which) root) (sound-so (M .lent) (span M which))
+        ∙ ap (by-found (tested (sounds M which) (span M which))) (sym e ∙ is-found)
+        ∙ coded-so M which

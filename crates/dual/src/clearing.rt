@@ -1,4 +1,7 @@
 // Clearing: +0.0 in each live adjoint.
+use tape::Admission;
+use tape::Caller;
+use tape::Lengths;
 use tape::Refusal;
 use tape::Tape;
 ghost use Prim.Native.Nat.{_≤_};
@@ -6,9 +9,10 @@ ghost use mathlib.Core.Path.{_≡_};
 ghost use mathlib.Core.List.{_++_};
 ghost use lib.ListN.{length, drop, replicate};
 ghost use Rattle.tape.specs.Numbers.{floats};
-ghost use Rattle.tape.specs.Machine.{arrays, machine};
-ghost use Rattle.tape.specs.Calls.{step, clear};
-ghost use Rattle.dual.specs.Outcome.{reset};
+ghost use Rattle.tape.specs.Machine.{machine, lent-after, lent-before};
+ghost use Rattle.tape.specs.Calls.{clear};
+ghost use Rattle.tape.specs.Steps.{step};
+ghost use Rattle.dual.specs.Outcome.{cleared-outcome};
 
 // What clearing answers: that it was done, or the refusal.
 pub enum Cleared {
@@ -27,14 +31,19 @@ pub fn reset_adjoints(
     partial: &[f64],
 ) -> Cleared
     ensures { λ x. ⌜
-        reset x (machine tape (arrays {N = floats} (now (value .entry)) (now (adjoint .exit)) (now (serial .entry)) (now (count .entry)) (now (child .entry)) (now (partial .entry))))
-        ≡ step clear (machine tape (arrays (now (value .entry)) (now (adjoint .entry)) (now (serial .entry)) (now (count .entry)) (now (child .entry)) (now (partial .entry)))) ⌝ }
+        cleared-outcome x (machine tape (lent-after value adjoint serial count child partial))
+        ≡ step clear (machine tape (lent-before value adjoint serial count child partial)) ⌝ }
 {
-    if !tape.admits(value, adjoint, serial, count, child, partial) {
-        return Cleared::Refused(Refusal::Misshapen);
+    match tape.admit(
+        Caller::Clearing,
+        Lengths::of(value, &*adjoint, serial, count, child, partial),
+    ) {
+        Admission::Refused(refusal) => Cleared::Refused(refusal),
+        Admission::Granted => {
+            clear_first(tape.length, adjoint);
+            Cleared::Done
+        }
     }
-    clear_first(tape.length, adjoint);
-    Cleared::Done
 }
 
 fn clear_first(n: usize, adjoint: &mut [f64])

@@ -1,6 +1,7 @@
 // The five reverse passes. Each plans first, which settles every refusal, and then walks.
 use crate::planning::Pass;
 use crate::planning::Planned;
+use crate::planning::Root;
 use tape::Operand;
 use tape::Refusal;
 use tape::Tape;
@@ -9,11 +10,12 @@ ghost use Prim.Native.Nat.{ℕ};
 ghost use mathlib.Core.List.{List};
 ghost use lib.Ieee.{Float};
 ghost use Rattle.tape.specs.Numbers.{floats};
-ghost use Rattle.tape.specs.Machine.{arrays, machine};
+ghost use Rattle.tape.specs.Machine.{arrays, machine, lent-after, lent-before};
 ghost use Rattle.tape.specs.Handles.{operand};
-ghost use Rattle.tape.specs.Calls.{step, pass, backward, backward-to-mark, backward-mark-to-start, propagate-to-mark, propagate-mark-to-start};
-ghost use Rattle.dual.specs.Outcome.{passed-back};
-ghost use Rattle.dual.specs.Inner.{pass-of, Ready, carried-out};
+ghost use Rattle.tape.specs.Calls.{pass, backward, backward-to-mark, backward-mark-to-start, propagate-to-mark, propagate-mark-to-start, seeded};
+ghost use Rattle.tape.specs.Steps.{step};
+ghost use Rattle.dual.specs.Outcome.{pass-outcome};
+ghost use Rattle.dual.specs.Inner.{pass-of, Below, operands-of, Ready, carried-out};
 
 // What a pass answers: how many edges it visited, or the refusal.
 pub enum Passed {
@@ -33,8 +35,9 @@ pub fn backward(
     root: Operand,
 ) -> Passed
     ensures { λ x. ⌜
-        passed-back x (machine tape (arrays {N = floats} (now (value .entry)) (now (adjoint .exit)) (now (serial .entry)) (now (count .entry)) (now (child .entry)) (now (partial .entry))))
-        ≡ step (pass (backward (operand root))) (machine tape (arrays (now (value .entry)) (now (adjoint .entry)) (now (serial .entry)) (now (count .entry)) (now (child .entry)) (now (partial .entry)))) ⌝ }
+        pass-outcome x (machine tape (lent-after value adjoint serial count child partial))
+        ≡ step (pass (backward (operand root)))
+        (machine tape (lent-before value adjoint serial count child partial)) ⌝ }
 {
     run(
         Pass::Backward(root),
@@ -48,7 +51,8 @@ pub fn backward(
     )
 }
 
-// Sets the root's adjoint to one and walks from the last node down to the mark, wherever the root lies. Refuses as `backward` does.
+// Sets the root's adjoint to one and walks from the last node down to the mark, wherever the root lies. Refuses as
+// `backward` does.
 pub fn backward_to_mark(
     tape: Tape,
     value: &[f64],
@@ -60,8 +64,9 @@ pub fn backward_to_mark(
     root: Operand,
 ) -> Passed
     ensures { λ x. ⌜
-        passed-back x (machine tape (arrays {N = floats} (now (value .entry)) (now (adjoint .exit)) (now (serial .entry)) (now (count .entry)) (now (child .entry)) (now (partial .entry))))
-        ≡ step (pass (backward-to-mark (operand root))) (machine tape (arrays (now (value .entry)) (now (adjoint .entry)) (now (serial .entry)) (now (count .entry)) (now (child .entry)) (now (partial .entry)))) ⌝ }
+        pass-outcome x (machine tape (lent-after value adjoint serial count child partial))
+        ≡ step (pass (backward-to-mark (operand root)))
+        (machine tape (lent-before value adjoint serial count child partial)) ⌝ }
 {
     run(
         Pass::BackwardToMark(root),
@@ -75,7 +80,8 @@ pub fn backward_to_mark(
     )
 }
 
-// Sets the root's adjoint to one and walks from the mark down to the first node, wherever the root lies. Refuses as `backward` does.
+// Sets the root's adjoint to one and walks from the mark down to the first node, wherever the root lies. Refuses as
+// `backward` does.
 pub fn backward_mark_to_start(
     tape: Tape,
     value: &[f64],
@@ -87,8 +93,9 @@ pub fn backward_mark_to_start(
     root: Operand,
 ) -> Passed
     ensures { λ x. ⌜
-        passed-back x (machine tape (arrays {N = floats} (now (value .entry)) (now (adjoint .exit)) (now (serial .entry)) (now (count .entry)) (now (child .entry)) (now (partial .entry))))
-        ≡ step (pass (backward-mark-to-start (operand root))) (machine tape (arrays (now (value .entry)) (now (adjoint .entry)) (now (serial .entry)) (now (count .entry)) (now (child .entry)) (now (partial .entry)))) ⌝ }
+        pass-outcome x (machine tape (lent-after value adjoint serial count child partial))
+        ≡ step (pass (backward-mark-to-start (operand root)))
+        (machine tape (lent-before value adjoint serial count child partial)) ⌝ }
 {
     run(
         Pass::BackwardMarkToStart(root),
@@ -113,8 +120,8 @@ pub fn propagate_to_mark(
     partial: &[f64],
 ) -> Passed
     ensures { λ x. ⌜
-        passed-back x (machine tape (arrays {N = floats} (now (value .entry)) (now (adjoint .exit)) (now (serial .entry)) (now (count .entry)) (now (child .entry)) (now (partial .entry))))
-        ≡ step (pass propagate-to-mark) (machine tape (arrays (now (value .entry)) (now (adjoint .entry)) (now (serial .entry)) (now (count .entry)) (now (child .entry)) (now (partial .entry)))) ⌝ }
+        pass-outcome x (machine tape (lent-after value adjoint serial count child partial))
+        ≡ step (pass propagate-to-mark) (machine tape (lent-before value adjoint serial count child partial)) ⌝ }
 {
     run(
         Pass::PropagateToMark,
@@ -139,8 +146,8 @@ pub fn propagate_mark_to_start(
     partial: &[f64],
 ) -> Passed
     ensures { λ x. ⌜
-        passed-back x (machine tape (arrays {N = floats} (now (value .entry)) (now (adjoint .exit)) (now (serial .entry)) (now (count .entry)) (now (child .entry)) (now (partial .entry))))
-        ≡ step (pass propagate-mark-to-start) (machine tape (arrays (now (value .entry)) (now (adjoint .entry)) (now (serial .entry)) (now (count .entry)) (now (child .entry)) (now (partial .entry)))) ⌝ }
+        pass-outcome x (machine tape (lent-after value adjoint serial count child partial))
+        ≡ step (pass propagate-mark-to-start) (machine tape (lent-before value adjoint serial count child partial)) ⌝ }
 {
     run(
         Pass::PropagateMarkToStart,
@@ -165,8 +172,8 @@ fn run(
     partial: &[f64],
 ) -> Passed
     ensures { λ x. ⌜
-        passed-back x (machine tape (arrays {N = floats} (now (value .entry)) (now (adjoint .exit)) (now (serial .entry)) (now (count .entry)) (now (child .entry)) (now (partial .entry))))
-        ≡ step (pass (pass-of which)) (machine tape (arrays (now (value .entry)) (now (adjoint .entry)) (now (serial .entry)) (now (count .entry)) (now (child .entry)) (now (partial .entry)))) ⌝ }
+        pass-outcome x (machine tape (lent-after value adjoint serial count child partial))
+        ≡ step (pass (pass-of which)) (machine tape (lent-before value adjoint serial count child partial)) ⌝ }
 {
     let planned = crate::planning::plan(which, tape, value, adjoint, serial, count, child, partial);
     carry_out(planned, adjoint, count, child, partial)
@@ -182,18 +189,28 @@ fn carry_out(
 ) -> Passed
     requires { ⌜ Ready planned (now adjoint) (now count) (now child) (now partial) ⌝ }
     ensures { λ x. ⌜ ((t : Tape) (v : List Float) (s : List ℕ)
-        → passed-back x (machine t (arrays {N = floats} v (now (adjoint .exit)) s (now (count .entry)) (now (child .entry)) (now (partial .entry))))
+        → pass-outcome x (machine t (arrays {N = floats} v (now (adjoint .exit)) s (now (count .entry)) (now (child .entry)) (now (partial .entry))))
         ≡ carried-out planned (machine t (arrays v (now (adjoint .entry)) s (now (count .entry)) (now (child .entry)) (now (partial .entry))))) ⌝ }
 {
     match planned {
         Planned::Refused(refusal) => Passed::Refused(refusal),
-        Planned::Unrooted(span) => {
+        Planned::Walk(root, span) => {
+            seed(root, adjoint);
             Passed::Visited(crate::walking::walk(span, adjoint, count, child, partial))
         }
-        Planned::Rooted(root, span) => {
-            let at = root.index;
+    }
+}
+
+// The root's adjoint is set to one, and not added to.
+fn seed(root: Root, adjoint: &mut [f64])
+    requires { ⌜ Below root (now adjoint) ⌝ }
+    ensures { λ _. ⌜ now (adjoint .exit) ≡ seeded {N = floats} (operands-of root) (now (adjoint .entry)) ⌝ }
+{
+    match root {
+        Root::None => {}
+        Root::At(handle) => {
+            let at = handle.index;
             adjoint[at] = 1.0;
-            Passed::Visited(crate::walking::walk(span, adjoint, count, child, partial))
         }
     }
 }

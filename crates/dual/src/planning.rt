@@ -1,19 +1,24 @@
 // Planning a pass: every refusal is settled here, with the root and the range, before anything is written.
+use tape::Admission;
+use tape::Caller;
 use tape::Handle;
-use tape::Lookup;
+use tape::Lengths;
 use tape::MOST_EDGES;
 use tape::Operand;
 use tape::Refusal;
 use tape::Tape;
+use tape::Usable;
 ghost use Prim.Native.Nat.{_≤_};
 ghost use mathlib.Core.Path.{_≡_};
 ghost use mathlib.Core.Bool.{cond};
 ghost use mathlib.Core.List.{[], _∷_};
-ghost use Rattle.tape.specs.Numbers.{floats};
-ghost use Rattle.tape.specs.Machine.{arrays, machine, most-nodes};
+ghost use Rattle.tape.specs.Machine.{machine, most-nodes, lent-before};
 ghost use Rattle.tape.specs.Handles.{node, operand};
-ghost use Rattle.tape.specs.Calls.{step, pass, plan as Calls·plan, past};
-ghost use Rattle.dual.specs.Inner.{EdgeRoom, Within, Ready, pass-of, found-root, span-of, carried-out, all-sound, sound-edges};
+ghost use Rattle.tape.specs.Calls.{pass, plan as Calls·plan, past};
+ghost use Rattle.tape.specs.Admission.{admission, admitted};
+ghost use Rattle.tape.specs.Refusals.{refusal-of};
+ghost use Rattle.tape.specs.declared.admission.Caller.the-variants as caller;
+ghost use Rattle.dual.specs.Inner.{EdgeRoom, Within, Ready, pass-of, root-if, found-root, span-of, planned, all-sound, sound-edges};
 
 // The five passes, under the names of their calls, with the root of those that have one.
 pub(crate) enum Pass {
@@ -30,21 +35,25 @@ pub(crate) struct Span {
     pub end: usize,
 }
 
-// What a pass is to do: set the adjoint of its root to one, if it has one, and walk; or its refusal.
-pub(crate) enum Planned {
-    Refused(Refusal),
-    Rooted(Handle, Span),
-    Unrooted(Span),
-}
-
-// A pass's root: live, or none, or refused.
+// The root of a pass that is let in, if it has one.
 pub(crate) enum Root {
-    Refused(Refusal),
     None,
     At(Handle),
 }
 
-// Tests everything that the pass can be refused for.
+// What a pass is to do: set the adjoint of its root to one, if it has one, and walk; or its refusal.
+pub(crate) enum Planned {
+    Refused(Refusal),
+    Walk(Root, Span),
+}
+
+// What the search for a root comes to.
+pub(crate) enum Found {
+    Refused(Refusal),
+    Root(Root),
+}
+
+// The root and the range of a pass, once everything was tested that it can be refused for.
 pub(crate) fn plan(
     which: Pass,
     tape: Tape,
@@ -56,54 +65,61 @@ pub(crate) fn plan(
     partial: &[f64],
 ) -> Planned
     ensures { λ x. ⌜
-        carried-out x (machine tape (arrays {N = floats} (now (value .entry)) (now (adjoint .entry)) (now (serial .entry)) (now (count .entry)) (now (child .entry)) (now (partial .entry))))
-        ≡ step (pass (pass-of which)) (machine tape (arrays (now (value .entry)) (now (adjoint .entry)) (now (serial .entry)) (now (count .entry)) (now (child .entry)) (now (partial .entry)))) ⌝ }
+        x
+        ≡ planned (refusal-of (pass (pass-of which)) (machine tape (lent-before value adjoint serial count child partial))) (Calls·plan (pass-of which) tape) ⌝ }
     ensures { λ x. ⌜ Ready x (now (adjoint .entry)) (now (count .entry)) (now (child .entry)) (now (partial .entry)) ⌝ }
 {
-    if !tape.admits(value, adjoint, serial, count, child, partial) {
-        return Planned::Refused(Refusal::Misshapen);
+    match let_in(
+        which,
+        tape,
+        Lengths::of(value, adjoint, serial, count, child, partial),
+        serial,
+    ) {
+        Found::Refused(refusal) => Planned::Refused(refusal),
+        Found::Root(root) => if_sound(root, range_of(which, tape), count, child),
     }
-    match find_root(which, tape, serial) {
-        Root::Refused(refusal) => Planned::Refused(refusal),
-        Root::None => {
-            let span = range_of(which, tape);
-            if_sound(Planned::Unrooted(span), span, count, child)
-        }
-        Root::At(handle) => {
-            let span = range_of(which, tape);
-            if_sound(Planned::Rooted(handle, span), span, count, child)
-        }
+}
+
+// The root, if the pass is let in.
+fn let_in(which: Pass, tape: Tape, lent: Lengths, serial: &[u64]) -> Found
+    ensures { λ x. ⌜
+        x
+        ≡ root-if (admitted (admission caller.Passing lent tape)) (found-root tape (now (serial .entry)) (Calls·plan (pass-of which) tape .root)) ⌝ }
+{
+    match tape.admit(Caller::Passing, lent) {
+        Admission::Refused(refusal) => Found::Refused(refusal),
+        Admission::Granted => find_root(which, tape, serial),
     }
 }
 
 // The root, if the pass has one: a number is refused, and so is a handle that is not live.
-fn find_root(which: Pass, tape: Tape, serial: &[u64]) -> Root
-    ensures { λ x. ⌜ x ≡ found-root (tape .length) (now (serial .entry)) (Calls·plan (pass-of which) tape .root) ⌝ }
+fn find_root(which: Pass, tape: Tape, serial: &[u64]) -> Found
+    ensures { λ x. ⌜ x ≡ found-root tape (now (serial .entry)) (Calls·plan (pass-of which) tape .root) ⌝ }
 {
     match which {
-        Pass::Backward(root) => find_operand(root, tape.length, serial),
-        Pass::BackwardToMark(root) => find_operand(root, tape.length, serial),
-        Pass::BackwardMarkToStart(root) => find_operand(root, tape.length, serial),
-        Pass::PropagateToMark => Root::None,
-        Pass::PropagateMarkToStart => Root::None,
+        Pass::Backward(root) => find_operand(root, tape, serial),
+        Pass::BackwardToMark(root) => find_operand(root, tape, serial),
+        Pass::BackwardMarkToStart(root) => find_operand(root, tape, serial),
+        Pass::PropagateToMark => Found::Root(Root::None),
+        Pass::PropagateMarkToStart => Found::Root(Root::None),
     }
 }
 
-fn find_operand(root: Operand, nodes: usize, serial: &[u64]) -> Root
-    ensures { λ x. ⌜ x ≡ found-root nodes (now (serial .entry)) (operand root ∷ []) ⌝ }
+fn find_operand(root: Operand, tape: Tape, serial: &[u64]) -> Found
+    ensures { λ x. ⌜ x ≡ found-root tape (now (serial .entry)) (operand root ∷ []) ⌝ }
 {
     match root {
-        Operand::Number(_) => Root::Refused(Refusal::Detached),
-        Operand::Node(handle) => find_node(handle, nodes, serial),
+        Operand::Number(_) => Found::Refused(Refusal::Detached),
+        Operand::Node(handle) => find_node(handle, tape, serial),
     }
 }
 
-fn find_node(handle: Handle, nodes: usize, serial: &[u64]) -> Root
-    ensures { λ x. ⌜ x ≡ found-root nodes (now (serial .entry)) (node handle ∷ []) ⌝ }
+fn find_node(handle: Handle, tape: Tape, serial: &[u64]) -> Found
+    ensures { λ x. ⌜ x ≡ found-root tape (now (serial .entry)) (node handle ∷ []) ⌝ }
 {
-    match handle.lookup(nodes, serial) {
-        Lookup::NotLive => Root::Refused(Refusal::NotLive),
-        Lookup::Live => Root::At(handle),
+    match handle.usable(tape, serial) {
+        Usable::Refused(refusal) => Found::Refused(refusal),
+        Usable::Live => Found::Root(Root::At(handle)),
     }
 }
 
@@ -153,12 +169,14 @@ fn mark_to_start(tape: Tape) -> Span
 }
 
 // The plan, unless a node of its range cannot be walked.
-fn if_sound(planned: Planned, span: Span, count: &[u8], child: &[u16]) -> Planned
+fn if_sound(root: Root, span: Span, count: &[u8], child: &[u16]) -> Planned
     requires { ⌜ Within span (now count) (now child) ⌝ }
-    ensures { λ x. ⌜ x ≡ cond (all-sound (now (count .entry)) (now (child .entry)) span) planned (Planned.Refused Refusal.UnsoundEdge) ⌝ }
+    ensures { λ x. ⌜
+        x
+        ≡ cond (all-sound (now (count .entry)) (now (child .entry)) span) (Planned.Walk root span) (Planned.Refused Refusal.UnsoundEdge) ⌝ }
 {
     if is_sound_between(span, count, child) {
-        return planned;
+        return Planned::Walk(root, span);
     }
     Planned::Refused(Refusal::UnsoundEdge)
 }
@@ -177,7 +195,8 @@ fn is_sound_between(span: Span, count: &[u8], child: &[u16]) -> bool
     sound
 }
 
-// Whether a node has at most two edges, each to a node below it. There is no branch in it: no processor foretells how many edges a node has, and every pass asks this of every node.
+// Whether a node has at most two edges, each to a node below it. Branch-free: the count is unpredictable, and every
+// pass asks this of every node.
 fn is_sound(i: usize, count: &[u8], child: &[u16]) -> bool
     requires { ⌜ EdgeRoom i (now count) (now child) ⌝ }
     ensures { λ x. ⌜ x ≡ sound-edges (now (count .entry)) (now (child .entry)) i ⌝ }

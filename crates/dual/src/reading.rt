@@ -1,18 +1,22 @@
 // Reads: what stands behind a number or a handle.
+use tape::Admission;
+use tape::Caller;
 use tape::Handle;
+use tape::Lengths;
 use tape::Lookup;
 use tape::Operand;
 use tape::Refusal;
 use tape::Tape;
+use tape::Usable;
 ghost use Prim.Native.Nat.{_≤_};
 ghost use mathlib.Core.Path.{_≡_};
 ghost use lib.ListN.{length};
-ghost use Rattle.tape.specs.Numbers.{floats};
-ghost use Rattle.tape.specs.Machine.{arrays, machine};
+ghost use Rattle.tape.specs.Machine.{machine, lent-before};
 ghost use Rattle.tape.specs.Handles.{operand};
-ghost use Rattle.tape.specs.Calls.{step, value-of, adjoint-of, is-live};
-ghost use Rattle.dual.specs.Outcome.{heard, found};
-ghost use Rattle.dual.specs.Inner.{behind-node, told-of};
+ghost use Rattle.tape.specs.Calls.{value-of, adjoint-of, is-live};
+ghost use Rattle.tape.specs.Steps.{step};
+ghost use Rattle.dual.specs.Outcome.{read-outcome, liveness-outcome};
+ghost use Rattle.dual.specs.Inner.{behind-node, liveness-of, value-behind, adjoint-behind, liveness-behind};
 
 // What a read answers: the number that was asked for, or the refusal.
 pub enum Read {
@@ -27,7 +31,8 @@ pub enum Liveness {
     Refused(Refusal),
 }
 
-// The value of a number, which is the number, or of the node behind a handle. Refuses 1, and 3 for a handle that is not live.
+// The value of a number, which is the number, or of the node behind a handle. Refuses 1, and 3 for a handle that is not
+// live.
 pub fn value(
     tape: Tape,
     value: &[f64],
@@ -39,15 +44,15 @@ pub fn value(
     x: Operand,
 ) -> Read
     ensures { λ a. ⌜
-        heard a (machine tape (arrays {N = floats} (now (value .entry)) (now (adjoint .entry)) (now (serial .entry)) (now (count .entry)) (now (child .entry)) (now (partial .entry))))
-        ≡ step (value-of (operand x)) (machine tape (arrays (now (value .entry)) (now (adjoint .entry)) (now (serial .entry)) (now (count .entry)) (now (child .entry)) (now (partial .entry)))) ⌝ }
+        read-outcome a (machine tape (lent-before value adjoint serial count child partial))
+        ≡ step (value-of (operand x)) (machine tape (lent-before value adjoint serial count child partial)) ⌝ }
 {
-    if !tape.admits(value, adjoint, serial, count, child, partial) {
-        return Read::Refused(Refusal::Misshapen);
-    }
-    match x {
-        Operand::Number(v) => Read::Number(v),
-        Operand::Node(handle) => behind(handle, tape.length, serial, value),
+    match tape.admit(
+        Caller::Value,
+        Lengths::of(value, adjoint, serial, count, child, partial),
+    ) {
+        Admission::Refused(refusal) => Read::Refused(refusal),
+        Admission::Granted => value_behind(x, tape, serial, value),
     }
 }
 
@@ -63,15 +68,15 @@ pub fn adjoint(
     x: Operand,
 ) -> Read
     ensures { λ a. ⌜
-        heard a (machine tape (arrays {N = floats} (now (value .entry)) (now (adjoint .entry)) (now (serial .entry)) (now (count .entry)) (now (child .entry)) (now (partial .entry))))
-        ≡ step (adjoint-of (operand x)) (machine tape (arrays (now (value .entry)) (now (adjoint .entry)) (now (serial .entry)) (now (count .entry)) (now (child .entry)) (now (partial .entry)))) ⌝ }
+        read-outcome a (machine tape (lent-before value adjoint serial count child partial))
+        ≡ step (adjoint-of (operand x)) (machine tape (lent-before value adjoint serial count child partial)) ⌝ }
 {
-    if !tape.admits(value, adjoint, serial, count, child, partial) {
-        return Read::Refused(Refusal::Misshapen);
-    }
-    match x {
-        Operand::Number(_) => Read::Refused(Refusal::Detached),
-        Operand::Node(handle) => behind(handle, tape.length, serial, adjoint),
+    match tape.admit(
+        Caller::Adjoint,
+        Lengths::of(value, adjoint, serial, count, child, partial),
+    ) {
+        Admission::Refused(refusal) => Read::Refused(refusal),
+        Admission::Granted => adjoint_behind(x, tape, serial, adjoint),
     }
 }
 
@@ -87,34 +92,63 @@ pub fn is_live(
     x: Operand,
 ) -> Liveness
     ensures { λ a. ⌜
-        found a (machine tape (arrays {N = floats} (now (value .entry)) (now (adjoint .entry)) (now (serial .entry)) (now (count .entry)) (now (child .entry)) (now (partial .entry))))
-        ≡ step (is-live (operand x)) (machine tape (arrays (now (value .entry)) (now (adjoint .entry)) (now (serial .entry)) (now (count .entry)) (now (child .entry)) (now (partial .entry)))) ⌝ }
+        liveness-outcome a (machine tape (lent-before value adjoint serial count child partial))
+        ≡ step (is-live (operand x)) (machine tape (lent-before value adjoint serial count child partial)) ⌝ }
 {
-    if !tape.admits(value, adjoint, serial, count, child, partial) {
-        return Liveness::Refused(Refusal::Misshapen);
+    match tape.admit(
+        Caller::Liveness,
+        Lengths::of(value, adjoint, serial, count, child, partial),
+    ) {
+        Admission::Refused(refusal) => Liveness::Refused(refusal),
+        Admission::Granted => liveness_behind(x, tape, serial),
     }
+}
+
+fn value_behind(x: Operand, tape: Tape, serial: &[u64], value: &[f64]) -> Read
+    requires { ⌜ tape .length ≤ length (now value) ⌝ }
+    ensures { λ a. ⌜ a ≡ value-behind tape (now (serial .entry)) (now (value .entry)) x ⌝ }
+{
+    match x {
+        Operand::Number(v) => Read::Number(v),
+        Operand::Node(handle) => behind(handle, tape, serial, value),
+    }
+}
+
+fn adjoint_behind(x: Operand, tape: Tape, serial: &[u64], adjoint: &[f64]) -> Read
+    requires { ⌜ tape .length ≤ length (now adjoint) ⌝ }
+    ensures { λ a. ⌜ a ≡ adjoint-behind tape (now (serial .entry)) (now (adjoint .entry)) x ⌝ }
+{
+    match x {
+        Operand::Number(_) => Read::Refused(Refusal::Detached),
+        Operand::Node(handle) => behind(handle, tape, serial, adjoint),
+    }
+}
+
+fn liveness_behind(x: Operand, tape: Tape, serial: &[u64]) -> Liveness
+    ensures { λ a. ⌜ a ≡ liveness-behind tape (now (serial .entry)) x ⌝ }
+{
     match x {
         Operand::Number(_) => Liveness::NotLive,
-        Operand::Node(handle) => told(handle.lookup(tape.length, serial)),
+        Operand::Node(handle) => liveness_of(handle.lookup(tape, serial)),
     }
 }
 
 // What one of the arrays holds at a handle's node.
-fn behind(handle: Handle, nodes: usize, serial: &[u64], held: &[f64]) -> Read
-    requires { ⌜ nodes ≤ length (now held) ⌝ }
-    ensures { λ x. ⌜ x ≡ behind-node nodes (now (serial .entry)) (now (held .entry)) handle ⌝ }
+fn behind(handle: Handle, tape: Tape, serial: &[u64], held: &[f64]) -> Read
+    requires { ⌜ tape .length ≤ length (now held) ⌝ }
+    ensures { λ x. ⌜ x ≡ behind-node tape (now (serial .entry)) (now (held .entry)) handle ⌝ }
 {
-    match handle.lookup(nodes, serial) {
-        Lookup::NotLive => Read::Refused(Refusal::NotLive),
-        Lookup::Live => {
+    match handle.usable(tape, serial) {
+        Usable::Refused(refusal) => Read::Refused(refusal),
+        Usable::Live => {
             let index = handle.index;
             Read::Number(held[index])
         }
     }
 }
 
-fn told(lookup: Lookup) -> Liveness
-    ensures { λ x. ⌜ x ≡ told-of lookup ⌝ }
+fn liveness_of(lookup: Lookup) -> Liveness
+    ensures { λ x. ⌜ x ≡ liveness-of lookup ⌝ }
 {
     match lookup {
         Lookup::Live => Liveness::Live,

@@ -16,7 +16,9 @@ pub(crate) fn walk(
     partial: &[f64],
 ) -> u32
     requires { ⌜ Walkable span (now adjoint) (now count) (now child) (now partial) ⌝ }
-    ensures { λ _. ⌜ now (adjoint .exit) ≡ walked-back span (now (count .entry)) (now (child .entry)) (now (partial .entry)) (now (adjoint .entry)) ⌝ }
+    ensures { λ _. ⌜
+        now (adjoint .exit)
+        ≡ walked-back span (now (count .entry)) (now (child .entry)) (now (partial .entry)) (now (adjoint .entry)) ⌝ }
     ensures { λ x. ⌜ x ≡ visits span (now (count .entry)) ⌝ }
 {
     let mut visited = 0;

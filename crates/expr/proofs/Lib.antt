@@ -1,5 +1,7 @@
+pub mod Stepped
+pub mod Decisions
+pub mod Lists
 pub mod Table
 pub mod Rooms
-pub mod Decided
 pub mod OneToOne
 pub mod Proved

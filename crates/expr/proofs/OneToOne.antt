@@ -6,9 +6,9 @@ use Rattle.tape.specs.Numbers.{floats}
 use Rattle.tape.specs.Machine.{Arrays, Machine}
 use Rattle.tape.specs.Answers.{Answer}
 use Rattle.tape.specs.declared.node.Handle.{Handle}
-use Rattle.tape.specs.declared.state.Tape.{Tape}
+use Rattle.tape.specs.declared.tape.Tape.{Tape}
 use Rattle.tape.proofs.OneToOne.{by-number, at-refusal}
-use Rattle.expr.specs.Outcome.{outcome, Told}
+use Rattle.expr.specs.Outcome.{outcome, OneToOne}
 use Rattle.expr.specs.declared.recording.Recorded.{Recorded}
 use Rattle.expr.specs.declared.recording.Recorded.the-variants.{Node, Detached, Refused}
 
@@ -29,5 +29,5 @@ arrays-back (Node v h t) A = refl
 arrays-back (Detached v t) A = refl
 arrays-back (Refused r t) A = refl
 
-pub told : Told
-told x y A B e = (sym (read-back x A) ∙ ap meant e ∙ read-back y B, sym (arrays-back x A) ∙ ap (λ o. o .1 .lent) e ∙ arrays-back y B)
+pub one-to-one : OneToOne
+one-to-one x y A B e = (sym (read-back x A) ∙ ap meant e ∙ read-back y B, sym (arrays-back x A) ∙ ap (λ o. o .1 .lent) e ∙ arrays-back y B)

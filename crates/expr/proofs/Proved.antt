@@ -1,6 +1,6 @@
 -- The statement of specs/, with its proof.
-use Rattle.expr.specs.Outcome.{Told}
-use Rattle.expr.proofs.OneToOne as one-to-one
+use Rattle.expr.specs.Outcome.{OneToOne}
+use Rattle.expr.proofs.OneToOne as answers
 
-told : Told
-told = one-to-one.told
+one-to-one : OneToOne
+one-to-one = answers.one-to-one

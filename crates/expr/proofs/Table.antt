@@ -9,9 +9,8 @@ use lib.Ieee.{Float, nan}
 use lib.ListN.{List·getD-eq-default}
 use Rattle.tape.specs.Numbers.{floats}
 use Rattle.tape.specs.Operations.{Given, Row, row, rows, known, apply}
-use Rattle.expr.specs.Inner.{told-row, row-of, uses-of}
+use Rattle.expr.specs.Inner.{row-in, row-of}
 use Rattle.expr.specs.declared.operations.Row as code
-use Rattle.expr.specs.declared.operations.Uses.the-variants.{Unknown}
 
 up : (k op : ℕ) → k ≤ op → (op ≡ k → ⊥) → suc k ≤ op
 up k op h n = omega arith
@@ -26,15 +25,12 @@ unknown op h = le-ltb op 10 h
 pub past-table : (op : ℕ) (l r : Float) (g : Given floats) → 10 ≤ op → _≡_ {A = Bool × Row floats} (false, row nan none none) (known op, apply op l r g)
 past-table op l r g h = rw (unknown op h, List·getD-eq-default (rows {N = floats} l r g) (row nan none none) h)
 
-pub past-uses : (op : ℕ) → 10 ≤ op → Unknown ≡ uses-of op
-past-uses op h = rw (unknown op h)
-
-back : (x : code.Row) → x ≡ row-of (told-row x .0) (told-row x .1)
+back : (x : code.Row) → x ≡ row-of (row-in x .0) (row-in x .1)
 back code.the-variants.Unknown = refl
 back (code.the-variants.Leaf v) = refl
 back (code.the-variants.One v p) = refl
 back (code.the-variants.Two v p q) = refl
 
 -- the code's row is the one that it says
-pub row-told : (x : code.Row) (s : Bool × Row floats) → told-row x ≡ s → x ≡ row-of (s .0) (s .1)
-row-told x s e = back x ∙ ap (λ t. row-of (t .0) (t .1)) e
+pub row-so-in : (x : code.Row) (s : Bool × Row floats) → row-in x ≡ s → x ≡ row-of (s .0) (s .1)
+row-so-in x s e = back x ∙ ap (λ t. row-of (t .0) (t .1)) e

@@ -18,5 +18,5 @@ abbrev pub given : Supplied → Given floats
 given s = record { value = s .value; left = s .left; right = s .right }
 
 -- no two answers with their arrays say the same. Proved in proofs/OneToOne.antt
-abbrev pub Told : Type 0
-Told = (x y : Recorded) (A B : Arrays floats) → outcome x A ≡ outcome y B → (x ≡ y) × (A ≡ B)
+abbrev pub OneToOne : Type 0
+OneToOne = (x y : Recorded) (A B : Arrays floats) → outcome x A ≡ outcome y B → (x ≡ y) × (A ≡ B)

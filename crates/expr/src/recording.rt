@@ -1,34 +1,40 @@
 // Recording one operation: refusals are settled first, in document 01's order, and the node is written after.
+use crate::edges::Edges;
 use crate::operations::Row;
 use crate::operations::Supplied;
-use crate::operations::Uses;
+use tape::Admission;
+use tape::Caller;
 use tape::Handle;
-use tape::Lookup;
+use tape::Lengths;
 use tape::MOST_EDGES;
 use tape::Operand;
 use tape::Refusal;
 use tape::Tape;
-ghost use Prim.Native.Nat.{_<_};
+use tape::Usable;
+ghost use Prim.Native.Nat.{_≤_, _<_};
 ghost use mathlib.Core.Path.{_≡_};
 ghost use mathlib.Core.Bool.{true};
-ghost use mathlib.Core.List.{map};
-ghost use lib.ListN.{length, set};
-ghost use lib.Seq.{sets};
-ghost use Rattle.tape.specs.Numbers.{floats};
-ghost use Rattle.tape.specs.Machine.{arrays, machine, slot, fits};
+ghost use lib.Ieee.{nan};
+ghost use lib.ListN.{getD};
+ghost use Rattle.tape.specs.Machine.{machine, lent-after, lent-before, most-nodes, most-edges};
 ghost use Rattle.tape.specs.Handles.{operand};
-ghost use Rattle.tape.specs.Calls.{step, operate, with-node, last-serial};
+ghost use Rattle.tape.specs.Calls.{operate, with-node};
+ghost use Rattle.tape.specs.Admission.{fits};
+ghost use Rattle.tape.specs.Refusals.{last-serial};
+ghost use Rattle.tape.specs.Steps.{step};
 ghost use Rattle.expr.specs.Outcome.{given, outcome};
-ghost use Rattle.expr.specs.Inner.{Reads, Room, EdgeRoom, decided, found-operand, found-node, unlinked, made-from, made-beside, made-of, edge-of, edges-of, edges-told, kept, settled};
+ghost use Rattle.expr.specs.Inner.{lent-now, Small, Room, Decides, recording-refusal, row-for, usable-operand, both-usable, operand-value-in, row-refusal, refusal-in, edges-in, appended, recorded-if-room};
 
-// What a recording answers: a value and its node's handle, or a value alone where the tape is inactive, with the state after it; or the refusal and the state as it was.
+// What a recording answers: a value and its node's handle, or a value alone where the tape is inactive, with the state
+// after it; or the refusal and the state as it was.
 pub enum Recorded {
     Node(f64, Handle, Tape),
     Detached(f64, Tape),
     Refused(Refusal, Tape),
 }
 
-// Records operation op on its operands. Refuses what does not fit (1), an unknown operation (2), an operand that is used and not live (3) and, while active, a full tape (5) or spent serials (6).
+// Records operation op on its operands. Refuses what does not fit (1), an unknown operation (2), an operand that is
+// used and not live (3) and, while active, a full tape (5) or spent serials (6).
 pub fn record(
     tape: Tape,
     value: &mut [f64],
@@ -43,58 +49,67 @@ pub fn record(
     supplied: Supplied,
 ) -> Recorded
     ensures { λ x. ⌜
-        outcome x (arrays {N = floats} (now (value .exit)) (now (adjoint .exit)) (now (serial .exit)) (now (count .exit)) (now (child .exit)) (now (partial .exit)))
-        ≡ step (operate op (operand left) (operand right) (given supplied)) (machine tape (arrays (now (value .entry)) (now (adjoint .entry)) (now (serial .entry)) (now (count .entry)) (now (child .entry)) (now (partial .entry)))) ⌝ }
+        outcome x (lent-after value adjoint serial count child partial)
+        ≡ step (operate op (operand left) (operand right) (given supplied))
+        (machine tape (lent-before value adjoint serial count child partial)) ⌝ }
 {
-    if !tape.admits(&*value, &*adjoint, &*serial, &*count, &*child, &*partial) {
-        return Recorded::Refused(Refusal::Misshapen, tape);
-    }
-    match decide(tape.length, &*value, &*serial, op, left, right, supplied) {
-        Decision::Refused(refusal) => Recorded::Refused(refusal, tape),
-        Decision::Made(v, edges) => settle(
-            tape,
-            value,
-            adjoint,
-            serial,
-            count,
-            child,
-            partial,
-            v,
-            edges,
-        ),
+    let lent = Lengths::of(&*value, &*adjoint, &*serial, &*count, &*child, &*partial);
+    let decision = decide(tape, lent, &*value, &*serial, op, left, right, supplied);
+    let admission = decision.admission;
+    match admission {
+        Admission::Refused(refusal) => Recorded::Refused(refusal, tape),
+        Admission::Granted => {
+            let edges = decision.edges;
+            record_if_room(
+                tape,
+                value,
+                adjoint,
+                serial,
+                count,
+                child,
+                partial,
+                decision.value,
+                edges,
+            )
+        }
     }
 }
 
 // The last serial is never given out, so that the next one fits.
 const LAST_SERIAL: u64 = 18_446_744_073_709_551_615;
 
-// An operand that may be used: its value and, if it is on the tape, its index as an edge's child.
-pub(crate) struct Source {
+// What the operation and its operands come to, before the tape is asked for room: granted, with the node's value and
+// edges beside it, or refused.
+pub(crate) struct Decision {
+    pub admission: Admission,
     pub value: f64,
-    pub linked: bool,
-    pub child: u16,
+    pub edges: Edges,
 }
 
-pub(crate) enum Found {
-    NotLive,
-    Source(Source),
+fn refused(refusal: Refusal) -> Decision
+    ensures { λ d. ⌜ (d .admission ≡ Admission.Refused refusal) × (d .edges .count ≤ most-edges) ⌝ }
+{
+    let edges = Edges::none();
+    Decision {
+        admission: Admission::Refused(refusal),
+        value: 0.0,
+        edges,
+    }
 }
 
-// The edges of a new node, left before right.
-pub(crate) enum Edges {
-    None,
-    One(u16, f64),
-    Two(u16, f64, u16, f64),
-}
-
-// What the operation and its operands come to, before the tape is asked for room.
-pub(crate) enum Decision {
-    Refused(Refusal),
-    Made(f64, Edges),
+fn granted(v: f64, edges: Edges) -> Decision
+    ensures { λ d. ⌜ d ≡ record { admission = Admission.Granted; value = v; edges = edges } ⌝ }
+{
+    Decision {
+        admission: Admission::Granted,
+        value: v,
+        edges,
+    }
 }
 
 fn decide(
-    length: usize,
+    tape: Tape,
+    lent: Lengths,
     value: &[f64],
     serial: &[u64],
     op: u8,
@@ -102,116 +117,114 @@ fn decide(
     right: Operand,
     supplied: Supplied,
 ) -> Decision
-    requires { ⌜ Reads length (now value) ⌝ }
-    ensures { λ x. ⌜ x ≡ decided length (now (value .entry)) (now (serial .entry)) op left right supplied ⌝ }
+    ensures { λ x. ⌜
+        Decides x
+        (recording-refusal tape lent (now (serial .entry)) (row-for (now (value .entry)) op left right supplied) left right)
+        (row-for (now (value .entry)) op left right supplied)
+        left right ⌝ }
 {
-    match crate::operations::operands_of(op) {
-        Uses::Unknown => Decision::Refused(Refusal::UnknownOperation),
-        Uses::Left => {
-            let l = find(length, value, serial, left);
-            from_left(op, l, Found::Source(unlinked(0.0)), supplied)
-        }
-        Uses::Both => {
-            let l = find(length, value, serial, left);
-            let r = find(length, value, serial, right);
-            from_left(op, l, r, supplied)
-        }
-    }
-}
-
-fn find(length: usize, value: &[f64], serial: &[u64], operand: Operand) -> Found
-    requires { ⌜ Reads length (now value) ⌝ }
-    ensures { λ x. ⌜ x ≡ found-operand length (now (value .entry)) (now (serial .entry)) operand ⌝ }
-{
-    match operand {
-        Operand::Number(x) => Found::Source(unlinked(x)),
-        Operand::Node(handle) => find_node(length, value, serial, handle),
-    }
-}
-
-fn unlinked(x: f64) -> Source
-    ensures { λ s. ⌜ s ≡ unlinked x ⌝ }
-{
-    Source {
-        value: x,
-        linked: false,
-        child: 0,
-    }
-}
-
-fn find_node(length: usize, value: &[f64], serial: &[u64], handle: Handle) -> Found
-    requires { ⌜ Reads length (now value) ⌝ }
-    ensures { λ x. ⌜ x ≡ found-node length (now (value .entry)) (now (serial .entry)) handle ⌝ }
-{
-    match handle.lookup(length, serial) {
-        Lookup::NotLive => Found::NotLive,
-        Lookup::Live => {
-            let index = handle.index;
-            Found::Source(Source {
-                value: value[index],
-                linked: true,
-                child: index as u16,
-            })
+    match tape.admit(Caller::Recording, lent) {
+        Admission::Refused(refusal) => refused(refusal),
+        Admission::Granted => {
+            let l = operand_value(left, value);
+            let r = operand_value(right, value);
+            let row = crate::operations::apply(op, l, r, supplied);
+            make(tape, serial, row, left, right)
         }
     }
 }
 
-fn from_left(op: u8, left: Found, right: Found, supplied: Supplied) -> Decision
-    ensures { λ x. ⌜ x ≡ made-from op left right supplied ⌝ }
+// ---- who is live
+
+fn usable(x: Operand, tape: Tape, serial: &[u64]) -> Usable
+    ensures { λ u. ⌜ u ≡ usable-operand tape (now (serial .entry)) x ⌝ }
 {
-    match left {
-        Found::NotLive => Decision::Refused(Refusal::NotLive),
-        Found::Source(l) => from_right(op, l, right, supplied),
+    match x {
+        Operand::Number(_) => Usable::Live,
+        Operand::Node(handle) => handle.usable(tape, serial),
     }
 }
 
-fn from_right(op: u8, l: Source, right: Found, supplied: Supplied) -> Decision
-    ensures { λ x. ⌜ x ≡ made-beside op l right supplied ⌝ }
+// The left operand's refusal comes first.
+fn usable_both(left: Operand, right: Operand, tape: Tape, serial: &[u64]) -> Usable
+    ensures { λ u. ⌜
+        u
+        ≡ both-usable (usable-operand tape (now (serial .entry)) left) (usable-operand tape (now (serial .entry)) right) ⌝ }
 {
-    match right {
-        Found::NotLive => Decision::Refused(Refusal::NotLive),
-        Found::Source(r) => made(
-            crate::operations::apply(op, l.value, r.value, supplied),
-            l,
-            r,
-        ),
+    match usable(left, tape, serial) {
+        Usable::Refused(refusal) => Usable::Refused(refusal),
+        Usable::Live => usable(right, tape, serial),
     }
 }
 
-fn made(row: Row, l: Source, r: Source) -> Decision
-    ensures { λ x. ⌜ x ≡ made-of row l r ⌝ }
+// ---- the row
+
+// A number's value, or the value at a handle's index, live or not; past the end there is none.
+fn operand_value(x: Operand, value: &[f64]) -> f64
+    ensures { λ v. ⌜ v ≡ operand-value-in (now (value .entry)) x ⌝ }
+{
+    match x {
+        Operand::Number(v) => v,
+        Operand::Node(handle) => value_at(handle.index, value),
+    }
+}
+
+fn value_at(i: usize, value: &[f64]) -> f64
+    ensures { λ v. ⌜ v ≡ getD (now (value .entry)) i nan ⌝ }
+{
+    if i < value.len() {
+        return value[i];
+    }
+    0.0 / 0.0
+}
+
+// The node that a row makes of its operands.
+fn make(tape: Tape, serial: &[u64], row: Row, left: Operand, right: Operand) -> Decision
+    requires { ⌜ tape .length ≤ most-nodes ⌝ }
+    ensures { λ x. ⌜
+        Decides x (row-refusal row (usable-operand tape (now (serial .entry)) left) (usable-operand tape (now (serial .entry)) right)) row left right ⌝ }
 {
     match row {
-        Row::Unknown => Decision::Refused(Refusal::UnknownOperation),
-        Row::Leaf(v) => Decision::Made(v, Edges::None),
-        Row::One(v, p) => Decision::Made(v, link(l, p)),
-        Row::Two(v, p, q) => Decision::Made(v, link_both(l, p, r, q)),
+        Row::Unknown => refused(Refusal::UnknownOperation),
+        Row::Leaf(v) => make_leaf(usable(left, tape, serial), v),
+        Row::One(v, p) => make_one(usable(left, tape, serial), left, v, p),
+        Row::Two(v, p, q) => make_two(usable_both(left, right, tape, serial), left, v, p, right, q),
     }
 }
 
-fn link(s: Source, weight: f64) -> Edges
-    ensures { λ x. ⌜ x ≡ edge-of s weight ⌝ }
+fn make_leaf(usable: Usable, v: f64) -> Decision
+    ensures { λ x. ⌜ ((l r : Operand) → Decides x (refusal-in usable) (Row.Leaf v) l r) ⌝ }
 {
-    if s.linked {
-        return Edges::One(s.child, weight);
+    match usable {
+        Usable::Refused(refusal) => refused(refusal),
+        Usable::Live => granted(v, Edges::none()),
     }
-    Edges::None
 }
 
-fn link_both(l: Source, p: f64, r: Source, q: f64) -> Edges
-    ensures { λ x. ⌜ x ≡ edges-of l p r q ⌝ }
+fn make_one(usable: Usable, left: Operand, v: f64, p: f64) -> Decision
+    requires { ⌜ (usable ≡ Usable.Live → Small left) ⌝ }
+    ensures { λ x. ⌜ ((r : Operand) → Decides x (refusal-in usable) (Row.One v p) left r) ⌝ }
 {
-    if !l.linked {
-        return link(r, q);
+    match usable {
+        Usable::Refused(refusal) => refused(refusal),
+        Usable::Live => granted(v, Edges::none().with(left, p)),
     }
-    if !r.linked {
-        return link(l, p);
-    }
-    Edges::Two(l.child, p, r.child, q)
 }
+
+fn make_two(usable: Usable, left: Operand, v: f64, p: f64, right: Operand, q: f64) -> Decision
+    requires { ⌜ (usable ≡ Usable.Live → Small left × Small right) ⌝ }
+    ensures { λ x. ⌜ Decides x (refusal-in usable) (Row.Two v p q) left right ⌝ }
+{
+    match usable {
+        Usable::Refused(refusal) => refused(refusal),
+        Usable::Live => granted(v, Edges::none().with(left, p).with(right, q)),
+    }
+}
+
+// ---- the write
 
 // Keeps the node if the tape is active and has room for it.
-fn settle(
+fn record_if_room(
     tape: Tape,
     value: &mut [f64],
     adjoint: &mut [f64],
@@ -222,10 +235,10 @@ fn settle(
     v: f64,
     edges: Edges,
 ) -> Recorded
-    requires { ⌜ fits true (machine tape (arrays {N = floats} (now value) (now adjoint) (now serial) (now count) (now child) (now partial))) ≡ true ⌝ }
+    requires { ⌜ (edges .count ≤ most-edges) × (fits true (machine tape (lent-now value adjoint serial count child partial)) ≡ true) ⌝ }
     ensures { λ x. ⌜
-        outcome x (arrays {N = floats} (now (value .exit)) (now (adjoint .exit)) (now (serial .exit)) (now (count .exit)) (now (child .exit)) (now (partial .exit)))
-        ≡ settled (machine tape (arrays (now (value .entry)) (now (adjoint .entry)) (now (serial .entry)) (now (count .entry)) (now (child .entry)) (now (partial .entry)))) v (edges-told edges) ⌝ }
+        outcome x (lent-after value adjoint serial count child partial)
+        ≡ recorded-if-room (machine tape (lent-before value adjoint serial count child partial)) v (edges-in edges) ⌝ }
 {
     if !tape.active {
         return Recorded::Detached(v, tape);
@@ -236,7 +249,7 @@ fn settle(
     if tape.next == LAST_SERIAL {
         return Recorded::Refused(Refusal::SerialsSpent, tape);
     }
-    keep(
+    append(
         tape,
         value,
         adjoint,
@@ -249,7 +262,7 @@ fn settle(
     )
 }
 
-fn keep(
+fn append(
     tape: Tape,
     value: &mut [f64],
     adjoint: &mut [f64],
@@ -260,10 +273,10 @@ fn keep(
     v: f64,
     edges: Edges,
 ) -> Recorded
-    requires { ⌜ (tape .next < last-serial) × Room (tape .length) (arrays {N = floats} (now value) (now adjoint) (now serial) (now count) (now child) (now partial)) ⌝ }
+    requires { ⌜ (edges .count ≤ most-edges) × (tape .next < last-serial) × Room (tape .length) (lent-now value adjoint serial count child partial) ⌝ }
     ensures { λ x. ⌜
-        outcome x (arrays {N = floats} (now (value .exit)) (now (adjoint .exit)) (now (serial .exit)) (now (count .exit)) (now (child .exit)) (now (partial .exit)))
-        ≡ kept (machine tape (arrays (now (value .entry)) (now (adjoint .entry)) (now (serial .entry)) (now (count .entry)) (now (child .entry)) (now (partial .entry)))) v (edges-told edges) ⌝ }
+        outcome x (lent-after value adjoint serial count child partial)
+        ≡ appended (machine tape (lent-before value adjoint serial count child partial)) v (edges-in edges) ⌝ }
 {
     let handle = Handle {
         index: tape.length,
@@ -297,40 +310,15 @@ fn write(
     v: f64,
     edges: Edges,
 )
-    requires { ⌜ Room (handle .index) (arrays {N = floats} (now value) (now adjoint) (now serial) (now count) (now child) (now partial)) ⌝ }
-    ensures { λ _. ⌜ arrays {N = floats} (now (value .exit)) (now (adjoint .exit)) (now (serial .exit)) (now (count .exit)) (now (child .exit)) (now (partial .exit))
-        ≡ with-node handle (arrays (now (value .entry)) (now (adjoint .entry)) (now (serial .entry)) (now (count .entry)) (now (child .entry)) (now (partial .entry))) v (edges-told edges) ⌝ }
+    requires { ⌜ (edges .count ≤ most-edges) × Room (handle .index) (lent-now value adjoint serial count child partial) ⌝ }
+    ensures { λ _. ⌜
+        lent-after value adjoint serial count child partial
+        ≡ with-node handle (lent-before value adjoint serial count child partial) v (edges-in edges) ⌝ }
 {
     let at = handle.index;
     value[at] = v;
     adjoint[at] = 0.0;
     serial[at] = handle.serial;
-    write_edges(at, count, child, partial, edges);
-}
-
-fn write_edges(at: usize, count: &mut [u8], child: &mut [u16], partial: &mut [f64], edges: Edges)
-    requires { ⌜ EdgeRoom at (now count) (now child) (now partial) ⌝ }
-    ensures { λ _. ⌜
-        (now (count .exit) ≡ set (now (count .entry)) at (length (edges-told edges)))
-        × (now (child .exit) ≡ sets (now (child .entry)) (slot at) (map (λ e. e .child) (edges-told edges)))
-        × (now (partial .exit) ≡ sets (now (partial .entry)) (slot at) (map (λ e. e .weight) (edges-told edges))) ⌝ }
-{
-    let slot = MOST_EDGES * at;
-    match edges {
-        Edges::None => {
-            count[at] = 0;
-        }
-        Edges::One(c, p) => {
-            count[at] = 1;
-            child[slot] = c;
-            partial[slot] = p;
-        }
-        Edges::Two(c, p, d, q) => {
-            count[at] = 2;
-            child[slot] = c;
-            partial[slot] = p;
-            child[slot + 1] = d;
-            partial[slot + 1] = q;
-        }
-    }
+    count[at] = edges.count as u8;
+    edges.write(MOST_EDGES * at, child, partial);
 }

@@ -1,7 +1,8 @@
--- Two structs that hold the same number are the same struct: each map of specs/Number.antt has an inverse, by its fields.
+-- Two structs that hold the same number are the same struct: each map of specs/Number.antt has an inverse, by its
+-- fields.
 use mathlib.Core.Path.{ap}
 use Rattle.forward.specs.Forward.{Fwd}
-use Rattle.forward.specs.Number.{Told}
+use Rattle.forward.specs.Number.{NumbersOneToOne}
 use Rattle.forward.specs.declared.order1.Fwd1.{Fwd1}
 use Rattle.forward.specs.declared.order2.Fwd2.{Fwd2}
 use Rattle.forward.specs.declared.order3.Fwd3.{Fwd3}
@@ -19,5 +20,5 @@ struct3 p = record { val = struct2 (p .0); dot = struct2 (p .1) }
 abbrev struct4 : Fwd 4 → Fwd4
 struct4 p = record { val = struct3 (p .0); dot = struct3 (p .1) }
 
-pub told : Told
-told = ((λ x y e. ap struct1 e), (λ x y e. ap struct2 e), (λ x y e. ap struct3 e), (λ x y e. ap struct4 e))
+pub one-to-one : NumbersOneToOne
+one-to-one = ((λ x y e. ap struct1 e), (λ x y e. ap struct2 e), (λ x y e. ap struct3 e), (λ x y e. ap struct4 e))

@@ -1,4 +1,5 @@
--- From one order to the next, whatever the order n: a result is the rule's if its parts are what the operations of order n gave.
+-- From one order to the next, whatever the order n: a result is the rule's if its parts are what the operations of
+-- order n gave.
 use Prim.Native.Nat.{ℕ, suc}
 use mathlib.Core.Path.{_≡_}
 use mathlib.Core.Bool.{Bool, true, false, cond}

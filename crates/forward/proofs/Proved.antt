@@ -1,14 +1,14 @@
 -- The statements of specs/, each with its proof.
 use Prim.Native.Nat.{ℕ}
-use Rattle.forward.specs.Number.{Told}
+use Rattle.forward.specs.Number.{NumbersOneToOne}
 use Rattle.forward.specs.Rows.{EveryRow}
 use Rattle.forward.specs.Values.{Values}
-use Rattle.forward.proofs.OneToOne as one-to-one
+use Rattle.forward.proofs.OneToOne as answers
 use Rattle.forward.proofs.Rows as rows
 use Rattle.forward.proofs.Values as of-values
 
-told : Told
-told = one-to-one.told
+one-to-one : NumbersOneToOne
+one-to-one = answers.one-to-one
 
 values : (n : ℕ) → Values n
 values = of-values.values

@@ -1,4 +1,5 @@
--- Forward numbers of any order, as document 01 has them: each operation once, by recursion on the order, over IEEE 754 at binary64.
+-- Forward numbers of any order, as document 01 has them: each operation once, by recursion on the order, over IEEE 754
+-- at binary64.
 -- A number of order 0 is a float. One of order n + 1 is a value part and a derivative part, each of order n.
 -- Any two NaNs are one value here (`lib.Ieee` has one `nan`), and every operation is total.
 use Prim.Native.Nat.{ℕ, zero, suc}
@@ -33,7 +34,8 @@ abbrev pub value : (n : ℕ) → Fwd n → Float
 value zero x = x
 value (suc n) (a, b) = value n a
 
--- the k-th derivative: k derivative parts, taken first, and value parts after them. Past the order there is none, and `nan` stands there
+-- the k-th derivative: k derivative parts, taken first, and value parts after them. Past the order there is none, and
+-- `nan` stands there
 abbrev pub derivative : (k n : ℕ) → Fwd n → Float
 derivative zero n x = value n x
 derivative (suc k) zero x = nan
@@ -107,7 +109,8 @@ compared says n x y = says (value n x) (value n y)
 abbrev pub compared-plain : {A : Type 0} → (Float → Float → A) → (n : ℕ) → Fwd n → Float → A
 compared-plain says n x k = says (value n x) k
 
--- the comparisons of floats are `lib.Ieee`'s eq, ne, lt and le, these two, and what Rust's partial_cmp answers; where a NaN stands all but ne are false
+-- the comparisons of floats are `lib.Ieee`'s eq, ne, lt and le, these two, and what Rust's partial_cmp answers; where a
+-- NaN stands all but ne are false
 abbrev pub gt : Float → Float → Bool
 gt x y = lt y x
 

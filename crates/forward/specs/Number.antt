@@ -22,5 +22,5 @@ abbrev pub OneToOne : {A B : Type 0} → (A → B) → Type 0
 OneToOne {A} f = (x y : A) → f x ≡ f y → x ≡ y
 
 -- proved in proofs/OneToOne.antt
-abbrev pub Told : Type 0
-Told = OneToOne number1 × OneToOne number2 × OneToOne number3 × OneToOne number4
+abbrev pub NumbersOneToOne : Type 0
+NumbersOneToOne = OneToOne number1 × OneToOne number2 × OneToOne number3 × OneToOne number4

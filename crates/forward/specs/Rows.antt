@@ -1,4 +1,5 @@
--- Rows P9 to P12 of document 01's table: what is reckoned at which order, and what has to be seen. `EveryRow` is proved in proofs/Rows.antt, by computation.
+-- Rows P9 to P12 of document 01's table: what is reckoned at which order, and what has to be seen. `EveryRow` is proved
+-- in proofs/Rows.antt, by computation.
 use Prim.Native.Nat.{ℕ, zero, suc}
 use mathlib.Core.Path.{_≡_}
 use mathlib.Core.List.{List, [], _∷_, _++_, map}
@@ -63,15 +64,18 @@ float n = ofInt binary64 (pos n)
 
 -- P9 Fwd2 cube at 3: 27, 27, 18
 abbrev pub P9 : Row
-P9 = let x = variably (float 3) in record { order = 2; formula = times (times x x) x; sight = derivatives (float 27 ∷ float 27 ∷ float 18 ∷ []) }
+P9 =
+    let x = variably (float 3) in record { order = 2; formula = times (times x x) x; sight = derivatives (float 27 ∷ float 27 ∷ float 18 ∷ []) }
 
 -- P10 Fwd4 fourth power at 2: 16, 32, 48, 48, 24
 abbrev pub P10 : Row
-P10 = let x = variably (float 2) in record { order = 4; formula = times (times (times x x) x) x; sight = derivatives (float 16 ∷ float 32 ∷ float 48 ∷ float 48 ∷ float 24 ∷ []) }
+P10 =
+    let x = variably (float 2) in record { order = 4; formula = times (times (times x x) x) x; sight = derivatives (float 16 ∷ float 32 ∷ float 48 ∷ float 48 ∷ float 24 ∷ []) }
 
 -- P11 Fwd1 constant 49 over plain 49: value bits 3fefffffffffffff
 abbrev pub P11 : Row
-P11 = record { order = 1; formula = over-plain (constantly (float 49)) (float 49); sight = value-bits 0x3fef_ffff_ffff_ffff }
+P11 =
+    record { order = 1; formula = over-plain (constantly (float 49)) (float 49); sight = value-bits 0x3fef_ffff_ffff_ffff }
 
 -- P12 plain 3 minus Fwd2 constant 0: parts ((3, +0), (-0, -0))
 abbrev pub P12 : Row

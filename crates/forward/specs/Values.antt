@@ -1,4 +1,5 @@
--- At every order an operation's innermost value is the float operation on the innermost values: derivatives never reach it. proofs/Values.antt proves `Values n` for each n.
+-- At every order an operation's innermost value is the float operation on the innermost values: derivatives never reach
+-- it. proofs/Values.antt proves `Values n` for each n.
 use Prim.Native.Nat.{ℕ}
 use mathlib.Core.Path.{_≡_}
 use lib.Ieee.{Float, binary64, add, sub, mul, div, neg}

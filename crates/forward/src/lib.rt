@@ -1,6 +1,8 @@
-// Forward numbers: a value with its derivatives, to fourth order. Fwd1 holds two floats, and each higher order two numbers of the order below.
+// Forward numbers: a value with its derivatives, to fourth order. Fwd1 holds two floats, and each higher order two
+// numbers of the order below.
 //
-// Every method takes its numbers by value, asks nothing of them, and promises the rule of specs/Forward.antt at its order.
+// Every method takes its numbers by value, asks nothing of them, and promises the rule of specs/Forward.antt at its
+// order.
 pub mod comparison;
 pub mod order1;
 pub mod order2;

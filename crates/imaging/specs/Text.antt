@@ -1,27 +1,25 @@
 -- Numbers as text: what is read as a number of ticks, and how a number is written with decimals.
-use Prim.Native.Nat.{ℕ, zero, suc, _+_, _-_, _*_, _/_}
+use Prim.Native.Nat.{ℕ, zero, suc, _/_}
 use mathlib.Core.Path.{_≡_}
-use mathlib.Core.Bool.{Bool, _&&_, cond}
-use mathlib.Core.List.{List, [], _∷_, _++_}
-use lib.Dec.{leb}
+use mathlib.Core.Bool.{cond}
+use mathlib.Core.List.{List, _∷_, _++_}
 use lib.Ieee.{Float, binary64, add, mul, neg, le, lt, toUnsigned, ofBits}
-use lib.ListN.{length}
-use Rattle.tape.specs.Listing.{bytes, digits, decimal}
+use Rattle.text.specs.Numerals.{bytes, digits, decimal}
+use Rattle.text.specs.Parsed.{read-digits}
+use Rattle.text.specs.declared.read.Parsed.{Parsed}
+use Rattle.text.specs.declared.read.Parsed.the-variants.{Number, NotANumber}
 use Rattle.imaging.specs.declared.digits.Rounded.{Rounded}
 
 -- ---- read
 
-abbrev pub is-digit : ℕ → Bool
-is-digit byte = leb 48 byte && leb byte 57
+-- the number that was read, and 0 if none was
+abbrev pub or-nought : Parsed → ℕ
+or-nought (Number n) = n
+or-nought NotANumber = 0
 
--- the number that n and the digits after it make, and 0 if anything else stands there
-abbrev pub read-on : ℕ → List ℕ → ℕ
-read-on n [] = n
-read-on n (byte ∷ text) = cond (is-digit byte) (read-on (10 * n + (byte - 48)) text) 0
-
--- at most 8 digits; none at all make 0
+-- 1 to 8 digits
 abbrev pub number : List ℕ → ℕ
-number text = cond (leb (length text) 8) (read-on 0 text) 0
+number text = or-nought (read-digits 8 text)
 
 -- ---- written
 

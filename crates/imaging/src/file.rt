@@ -27,7 +27,8 @@ pub(crate) fn read(file: i32, times: &mut Times, ends: &mut Ends, ticks: &mut [u
     reading.ended()
 }
 
-// A proved loop has to end, and nothing says that a file does. So the loop counts its turns down, from a number that no run uses up.
+// A proved loop has to end, and nothing says that a file does. So the loop counts its turns down, from a number that no
+// run uses up.
 fn read_all(file: i32, times: &mut Times, ends: &mut Ends, ticks: &mut [u32]) -> Reading
     ensures { λ r. ⌜ Within r ⌝ }
 {

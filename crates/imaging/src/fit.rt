@@ -27,7 +27,8 @@ const LONGEST_PULL: f64 = 16.0;
 // A move of either parameter that is less than this no longer shows in what is written.
 const SETTLED: f64 = 1.0 / 268_435_456.0;
 
-// A step: where it was taken, the misfit an interval there, the edges that its passes visited, and where it leads; or its refusal.
+// A step: where it was taken, the misfit an interval there, the edges that its passes visited, and where it leads; or
+// its refusal.
 pub struct Step {
     pub tape: Tape,
     pub drive: Drive,
@@ -119,8 +120,10 @@ fn run(
     step
 }
 
-// A step makes the calls of document 01's demand 3, in its order: start, the model, mark, clear; for each revolution its misfit, the pass to the mark, the rewind; at last the pass from the mark to the start.
-// So the two adjoints that it reads are those of one long tape of all revolutions (crates/revolutions/specs/Revolutions.antt).
+// A step makes the calls of document 01's demand 3, in its order: start, the model, mark, clear; for each revolution
+// its misfit, the pass to the mark, the rewind; at last the pass from the mark to the start.
+// So the two adjoints that it reads are those of one long tape of all revolutions
+// (crates/revolutions/specs/Revolutions.antt).
 fn take_step(
     before: Step,
     value: &mut [f64],
@@ -443,7 +446,8 @@ fn is_small(x: f64) -> bool {
     (x < SETTLED) & (0.0 - x < SETTLED)
 }
 
-// No direction is steeper, an interval, than the two parameters' curvatures together: a step of the gradient over this much overshoots on no track of MFM.
+// No direction is steeper, an interval, than the two parameters' curvatures together: a step of the gradient over this
+// much overshoots on no track of MFM.
 fn steepest(drive: Drive) -> f64 {
     let turn = 1.0 / drive.speed;
     let by_cell = turn * turn;

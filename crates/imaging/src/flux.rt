@@ -1,4 +1,5 @@
-// What a file holds, line by line, and whether its lines are in order. The intervals of all revolutions go into one lent slice, one after another, in ticks of 25 ns.
+// What a file holds, line by line, and whether its lines are in order. The intervals of all revolutions go into one
+// lent slice, one after another, in ticks of 25 ns.
 use crate::digits;
 use crate::digits::Entry;
 ghost use Rattle.imaging.specs.Flux.{Within};

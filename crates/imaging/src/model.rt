@@ -1,5 +1,12 @@
-// The drive model, and how an operation is recorded. What is recorded stands in tables, so that one call records it all.
+// The drive model, and how an operation is recorded. What is recorded stands in tables, so that one call records it
+// all.
+use expr::ADD;
+use expr::DIVIDE;
+use expr::LEAF;
+use expr::MIN;
+use expr::MULTIPLY;
 use expr::Recorded;
+use expr::SUBTRACT;
 use expr::Supplied;
 use tape::Moved;
 use tape::Operand;
@@ -14,20 +21,22 @@ pub struct Drive {
 
 // An operation of document 01's table, with its operands.
 pub struct Operation {
-    pub number: u8,
+    pub operation: u8,
     pub left: Operand,
     pub right: Operand,
 }
 
-// What was recorded last, as an operand and as a number, and the tape after it; or the first refusal, after which nothing is recorded.
+// What was recorded last, as an operand and as a number, and the tape after it; or the first refusal, after which
+// nothing is recorded.
 pub struct Made {
     pub tape: Tape,
     pub x: Operand,
-    pub worth: f64,
+    pub number: f64,
     pub refusal: u8,
 }
 
-// The model's nodes: the two parameters, the time of a turn relative to nominal, and how long a cell is as this drive reads it.
+// The model's nodes: the two parameters, the time of a turn relative to nominal, and how long a cell is as this drive
+// reads it.
 pub struct Model {
     pub speed: Operand,
     pub cell: Operand,
@@ -126,7 +135,7 @@ impl Model {
 
 fn leaf(x: f64) -> Operation {
     Operation {
-        number: 0,
+        operation: LEAF,
         left: Operand::Number(x),
         right: Operand::Number(0.0),
     }
@@ -134,7 +143,7 @@ fn leaf(x: f64) -> Operation {
 
 pub(crate) fn add(left: Operand, right: Operand) -> Operation {
     Operation {
-        number: 1,
+        operation: ADD,
         left,
         right,
     }
@@ -142,7 +151,7 @@ pub(crate) fn add(left: Operand, right: Operand) -> Operation {
 
 pub(crate) fn subtract(left: Operand, right: Operand) -> Operation {
     Operation {
-        number: 2,
+        operation: SUBTRACT,
         left,
         right,
     }
@@ -150,7 +159,7 @@ pub(crate) fn subtract(left: Operand, right: Operand) -> Operation {
 
 pub(crate) fn multiply(left: Operand, right: Operand) -> Operation {
     Operation {
-        number: 3,
+        operation: MULTIPLY,
         left,
         right,
     }
@@ -158,7 +167,7 @@ pub(crate) fn multiply(left: Operand, right: Operand) -> Operation {
 
 fn divide(left: Operand, right: Operand) -> Operation {
     Operation {
-        number: 4,
+        operation: DIVIDE,
         left,
         right,
     }
@@ -166,17 +175,11 @@ fn divide(left: Operand, right: Operand) -> Operation {
 
 pub(crate) fn min(left: Operand, right: Operand) -> Operation {
     Operation {
-        number: 6,
+        operation: MIN,
         left,
         right,
     }
 }
-
-const NOTHING: Supplied = Supplied {
-    value: 0.0,
-    left: 0.0,
-    right: 0.0,
-};
 
 // Records one operation, unless one before it was refused.
 pub(crate) fn record(
@@ -203,23 +206,23 @@ pub(crate) fn record(
         count,
         child,
         partial,
-        operation.number,
+        operation.operation,
         left,
         right,
-        NOTHING,
+        Supplied::NONE,
     ) {
-        Recorded::Node(worth, handle, after) => made_of(after, Operand::Node(handle), worth),
+        Recorded::Node(v, handle, after) => made_of(after, Operand::Node(handle), v),
         // On an inactive tape, which this program does not have; as a root, the number would be refused.
-        Recorded::Detached(worth, after) => made_of(after, Operand::Number(worth), worth),
+        Recorded::Detached(v, after) => made_of(after, Operand::Number(v), v),
         Recorded::Refused(refusal, after) => Made::nothing(after).refused(refusal),
     }
 }
 
-fn made_of(tape: Tape, x: Operand, worth: f64) -> Made {
+fn made_of(tape: Tape, x: Operand, number: f64) -> Made {
     Made {
         tape,
         x,
-        worth,
+        number,
         refusal: 0,
     }
 }

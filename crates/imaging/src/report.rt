@@ -167,14 +167,14 @@ fn rounded(n: u64, places: usize)
 {
     let mut space = [0u8; digits::WIDTH];
     let out: &mut [u8] = &mut space;
-    let from = digits::write_decimals(out, n, places);
-    text_from(out, from);
+    let end = digits::write_decimals(out, n, places);
+    text_to(out, end);
 }
 
-fn text_from(bytes: &[u8], from: usize)
-    requires { ⌜ from ≤ length (now bytes) ⌝ }
+fn text_to(bytes: &[u8], end: usize)
+    requires { ⌜ end ≤ length (now bytes) ⌝ }
 {
-    text(&bytes[from..]);
+    text(&bytes[..end]);
 }
 
 fn number(before: &[u8], n: usize) {

@@ -25,7 +25,8 @@ const CLIP: f64 = 0.0625;
 
 const MOST_CELLS: u32 = 8;
 
-// A part of a misfit: the time of a turn as modelled and as measured, with its weight; or the sum so far, a cell as this drive reads it, an interval in nominal cells and the cells in it.
+// A part of a misfit: the time of a turn as modelled and as measured, with its weight; or the sum so far, a cell as
+// this drive reads it, an interval in nominal cells and the cells in it.
 enum Part {
     Index(Operand, f64, f64),
     Interval(Operand, Operand, f64, f64),
@@ -148,7 +149,7 @@ fn weight(intervals: usize) -> f64 {
 fn interval(sum: Made, seen: Made, t: f64) -> Part {
     let total = sum.x;
     let cell = seen.x;
-    Part::Interval(total, cell, t, nearest_cells(t, seen.worth))
+    Part::Interval(total, cell, t, nearest_cells(t, seen.number))
 }
 
 fn record_part(
@@ -291,7 +292,7 @@ impl Turned {
     fn with(mut self, misfit: Made) -> Turned {
         let tape = misfit.tape;
         self.tape = tape;
-        self.misfit = self.misfit + misfit.worth;
+        self.misfit = self.misfit + misfit.number;
         self.refusal = misfit.refusal;
         self
     }

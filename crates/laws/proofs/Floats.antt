@@ -1,5 +1,7 @@
--- Laws of the floats, over `lib.Ieee`, for any format. Assumes nothing: x and y are any floats, and need not fit the format.
--- Either way round the exact sum or product is the same fraction with the same sign, and `round` is handed the same one.
+-- Laws of the floats, over `lib.Ieee`, for any format. Assumes nothing: x and y are any floats, and need not fit the
+-- format.
+-- Either way round the exact sum or product is the same fraction with the same sign, and `round` is handed the same
+-- one.
 use Prim.Native.Nat.{ℕ, _+_, _-_, _*_, _<_, _≤_}
 use native.Mathlib.Omega.{arith}
 use mathlib.Core.Path.{_≡_, refl, sym, ap, _∙_}

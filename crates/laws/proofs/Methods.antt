@@ -1,10 +1,11 @@
--- Each method answers what its rule gives, so the laws of the rules are laws of the methods: once over the order n and a one-to-one map to the numbers of that order.
+-- Each method answers what its rule gives, so the laws of the rules are laws of the methods: once over the order n and
+-- a one-to-one map to the numbers of that order.
 use Prim.Native.Nat.{ℕ}
 use mathlib.Core.Path.{_≡_, sym, ap, _∙_}
 use lib.Ieee.{Float}
 use Rattle.forward.specs.Forward.{Fwd, sum, difference, product, negation, sum-plain, difference-plain}
 use Rattle.forward.specs.Number.{OneToOne, number1, number2, number3, number4}
-use Rattle.forward.proofs.OneToOne.{told}
+use Rattle.forward.proofs.OneToOne.{one-to-one}
 use Rattle.laws.specs.Methods.{Methods, Lawful, methods1, methods2, methods3, methods4, OfTheCode}
 use Rattle.laws.proofs.Laws.{laws}
 
@@ -30,8 +31,8 @@ lawful M n number one-to-one follows =
 
 pub of-the-code : OfTheCode
 of-the-code = (
-  lawful methods1 1 number1 (told .0) (record { add = λ x y z p. p .1; sub = λ x y z p. p .1; mul = λ x y z p. p .1; neg = λ x z p. p .1; add-f64 = λ x k z p. p .1; sub-f64 = λ x k z p. p .1 }),
-  lawful methods2 2 number2 (told .1) (record { add = λ x y z p. p .1; sub = λ x y z p. p .1; mul = λ x y z p. p .1; neg = λ x z p. p .1; add-f64 = λ x k z p. p .1; sub-f64 = λ x k z p. p .1 }),
-  lawful methods3 3 number3 (told .2) (record { add = λ x y z p. p .1; sub = λ x y z p. p .1; mul = λ x y z p. p .1; neg = λ x z p. p .1; add-f64 = λ x k z p. p .1; sub-f64 = λ x k z p. p .1 }),
-  lawful methods4 4 number4 (told .3) (record { add = λ x y z p. p .1; sub = λ x y z p. p .1; mul = λ x y z p. p .1; neg = λ x z p. p .1; add-f64 = λ x k z p. p .1; sub-f64 = λ x k z p. p .1 }),
+  lawful methods1 1 number1 (one-to-one .0) (record { add = λ x y z p. p .1; sub = λ x y z p. p .1; mul = λ x y z p. p .1; neg = λ x z p. p .1; add-f64 = λ x k z p. p .1; sub-f64 = λ x k z p. p .1 }),
+  lawful methods2 2 number2 (one-to-one .1) (record { add = λ x y z p. p .1; sub = λ x y z p. p .1; mul = λ x y z p. p .1; neg = λ x z p. p .1; add-f64 = λ x k z p. p .1; sub-f64 = λ x k z p. p .1 }),
+  lawful methods3 3 number3 (one-to-one .2) (record { add = λ x y z p. p .1; sub = λ x y z p. p .1; mul = λ x y z p. p .1; neg = λ x z p. p .1; add-f64 = λ x k z p. p .1; sub-f64 = λ x k z p. p .1 }),
+  lawful methods4 4 number4 (one-to-one .3) (record { add = λ x y z p. p .1; sub = λ x y z p. p .1; mul = λ x y z p. p .1; neg = λ x z p. p .1; add-f64 = λ x k z p. p .1; sub-f64 = λ x k z p. p .1 }),
 )

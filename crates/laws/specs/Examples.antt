@@ -1,4 +1,5 @@
--- The lines of docs/LAWS.md, in its order; those on grouped sums are in Regrouped.antt. Proved in proofs/Examples.antt, by computation.
+-- The lines of docs/LAWS.md, in its order; those on grouped sums are in Regrouped.antt. Proved in proofs/Examples.antt,
+-- by computation.
 use mathlib.Core.Bool.{false}
 use mathlib.Core.List.{[], _∷_}
 use lib.Ieee.{inf, neg}

@@ -1,5 +1,7 @@
--- What may be reordered in a formula of forward numbers: at every order, for every number, both sides have the same bits in every part.
--- The parts are any floats: NaN, infinities, zeros of either sign, subnormals and all others, so every value that a binary64 can hold. NaNs are equal, as `lib.Ieee` has one.
+-- What may be reordered in a formula of forward numbers: at every order, for every number, both sides have the same
+-- bits in every part.
+-- The parts are any floats: NaN, infinities, zeros of either sign, subnormals and all others, so every value that a
+-- binary64 can hold. NaNs are equal, as `lib.Ieee` has one.
 -- proofs/Laws.antt proves `Laws n` for each n, by one argument from n to n + 1 and the floats' laws at 0.
 use Prim.Native.Nat.{ℕ}
 use mathlib.Core.Path.{_≡_}

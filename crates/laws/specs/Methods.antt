@@ -1,4 +1,5 @@
--- The laws of the code's own methods: whatever the calls on either side answer, if each keeps its promise, as every call is proved to, is the same struct.
+-- The laws of the code's own methods: whatever the calls on either side answer, if each keeps its promise, as every
+-- call is proved to, is the same struct.
 -- Of a method `f` the checker makes `f.ended`, its signature, and `f.Reads.Learnt`, what its `ensures` tell a caller.
 use mathlib.Core.Path.{_≡_}
 use lib.Ieee.{Float}
@@ -15,7 +16,8 @@ use Rattle.forward.proofs.order2.Fwd2 as fwd2
 use Rattle.forward.proofs.order3.Fwd3 as fwd3
 use Rattle.forward.proofs.order4.Fwd4 as fwd4
 
--- what the methods of one struct may answer, by their promises: `add x y z` says that z is an answer of x.add(y), and so on
+-- what the methods of one struct may answer, by their promises: `add x y z` says that z is an answer of x.add(y), and
+-- so on
 pub record Methods : Type 1 where
   pub Number : Type 0
   pub add : Number → Number → Number → Type 0
@@ -33,7 +35,8 @@ pub record Lawful (M : Methods) : Type 0 where
   -- x.sub(y), and x.add(v) where v is y.neg()
   pub sub-is-add-neg : (x y v z w : M .Number) → M .sub x y z → M .neg y v → M .add x v w → z ≡ w
   -- x.sub_f64(k) and x.add_f64(-k)
-  pub sub-f64-is-add-f64 : (x : M .Number) (k : Float) (z w : M .Number) → M .sub-f64 x k z → M .add-f64 x (ieee.neg k) w → z ≡ w
+  pub sub-f64-is-add-f64 : (x : M .Number) (k : Float) (z w : M .Number) → M .sub-f64 x k z
+      → M .add-f64 x (ieee.neg k) w → z ≡ w
   -- v.neg(), where v is x.neg(), and x
   pub neg-neg : (x v z : M .Number) → M .neg x v → M .neg v z → z ≡ x
 

@@ -1,4 +1,5 @@
--- Which of the laws hold of the values that a tape records, by its operations table: 1 is a sum, 2 a difference, 3 a product, and 7 the negation, which is 0 - l. Proved in proofs/OnATape.antt.
+-- Which of the laws hold of the values that a tape records, by its operations table: 1 is a sum, 2 a difference, 3 a
+-- product, and 7 the negation, which is 0 - l. Proved in proofs/OnATape.antt.
 use Prim.Native.Nat.{ℕ}
 use mathlib.Core.Path.{_≡_}
 use mathlib.Core.List.{[], _∷_}

@@ -1,4 +1,5 @@
--- Sums grouped otherwise are not claimed to be the same: they are not. Proved in proofs/Regrouped.antt, the two cases by computation.
+-- Sums grouped otherwise are not claimed to be the same: they are not. Proved in proofs/Regrouped.antt, the two cases
+-- by computation.
 use Prim.Native.Nat.{ℕ, _^_}
 use mathlib.Core.Path.{_≡_}
 use mathlib.Core.List.{[], _∷_}
@@ -33,7 +34,8 @@ third = (float 3, neg (float (2 ^ 53)))
 pub record Cases : Type 0 where
   -- order 0: (0.1 + 0.2) + 0.3 is 0.6000000000000001, and 0.1 + (0.2 + 0.3) is 0.6
   pub floats : Changed 0 (left-first 0 (tenths 1) (tenths 2) (tenths 3)) (right-first 0 (tenths 1) (tenths 2) (tenths 3)) (0x3fe3_3333_3333_3334 ∷ []) (0x3fe3_3333_3333_3333 ∷ [])
-  -- inside a derivative part: the value is 6 either way, and the derivative (3 + 2^53) - 2^53 is 4 while 3 + (2^53 - 2^53) is 3
+  -- inside a derivative part: the value is 6 either way, and the derivative (3 + 2^53) - 2^53 is 4 while 3 + (2^53 -
+  -- 2^53) is 3
   pub derivative-part : Changed 1 (left-first 1 first second third) (right-first 1 first second third) (0x4018_0000_0000_0000 ∷ 0x4010_0000_0000_0000 ∷ []) (0x4018_0000_0000_0000 ∷ 0x4008_0000_0000_0000 ∷ [])
 
 -- and there is no order at which it is so

@@ -1,4 +1,5 @@
--- How two ways to write a formula are shown at some numbers: by the bits of every part, value parts before derivative parts. Any NaN has the bits 7ff8000000000000 (`toBits`).
+-- How two ways to write a formula are shown at some numbers: by the bits of every part, value parts before derivative
+-- parts. Any NaN has the bits 7ff8000000000000 (`toBits`).
 use Prim.Native.Nat.{ℕ}
 use mathlib.Core.Path.{_≡_}
 use mathlib.Core.List.{List, map}

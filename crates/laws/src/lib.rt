@@ -1,1 +1,2 @@
-// Statements and proofs alone: which formulas of forward numbers may be reordered. The code that they speak of is in crate `forward`.
+// Statements and proofs alone: which formulas of forward numbers may be reordered. The code that they speak of is in
+// crate `forward`.

@@ -1,7 +1,6 @@
 pub mod Rows
 pub mod OneToOne
 pub mod Proved
-pub mod Stores
 pub mod Numerals
 pub mod Lines
 pub mod Written

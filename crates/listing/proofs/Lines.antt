@@ -8,11 +8,13 @@ use lib.ListN.{length, length-append}
 use Rattle.tape.specs.Numbers.{floats}
 use Rattle.tape.specs.Machine.{Arrays, machine}
 use Rattle.tape.specs.Walk.{indexes}
-use Rattle.tape.specs.Listing.{decimal, header, line, lines, listing}
-use Rattle.tape.specs.declared.state.Tape.{Tape}
+use Rattle.text.specs.Numerals.{decimal}
+use Rattle.tape.specs.Listing.{header, line, lines, listing}
+use Rattle.tape.specs.declared.tape.Tape.{Tape}
 use Rattle.tape.proofs.Ranges.{nothing-left, indexes-first}
 use Rattle.listing.specs.Inner.{shown}
-use Rattle.listing.proofs.Numerals.{length-hex, beyond, longer, index-length}
+use Rattle.text.proofs.Numerals.{length-hex}
+use Rattle.listing.proofs.Numerals.{beyond, longer, index-length}
 
 one-digit : (b : Bool) → length (decimal (cond b 1 0)) ≡ 1
 one-digit true = refl

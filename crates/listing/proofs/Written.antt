@@ -3,29 +3,34 @@ use Prim.Native.Nat.{ℕ, _+_, _≤_, _<_}
 use native.Mathlib.Nat.{zero-add}
 use native.Mathlib.Omega.{arith}
 use mathlib.Core.Path.{_≡_, ap, _∙_}
-use mathlib.Core.Bool.{true, false}
+use mathlib.Core.Option.{none, some}
 use mathlib.Core.List.{List, _++_}
 use borrow.Author.Tests.{lt-ltb, le-ltb}
 use lib.ListN.{length, drop, length-append}
 use lib.Seq.{sets, sets-eq}
 use Rattle.tape.specs.Numbers.{floats}
-use Rattle.tape.specs.Machine.{Machine, fits}
+use Rattle.tape.specs.Machine.{Machine}
 use Rattle.tape.specs.Walk.{indexes}
 use Rattle.tape.specs.Listing.{header, lines, listing}
 use Rattle.tape.specs.Answers.{refused, counted}
-use Rattle.tape.specs.Calls.{step}
-use Rattle.tape.specs.declared.errors.Refusal.the-variants.{Misshapen, ListingTooLong}
+use Rattle.tape.specs.Admission.{let-in}
+use Rattle.tape.specs.Steps.{step}
+use Rattle.tape.specs.declared.errors.Refusal.{Refusal}
+use Rattle.tape.specs.declared.errors.Refusal.the-variants.{ListingTooLong}
+use Rattle.tape.specs.declared.admission.Caller.the-variants as caller
+use Rattle.tape.proofs.OneToOne.{not-nought}
 use Rattle.listing.specs.Outcome.{listed}
-use Rattle.listing.specs.Inner.{Wrote, shown}
+use Rattle.text.specs.Inner.{Wrote}
+use Rattle.listing.specs.Inner.{shown}
 use Rattle.listing.proofs.Lines.{shown-so}
-use Rattle.listing.proofs.Stores.{then}
+use Rattle.text.proofs.Stores.{then}
 
 module _ (M : Machine floats) (lent : List ℕ) where
-  pub misshapen : fits true M ≡ false → ((refused Misshapen, M), lent) ≡ listed M lent
+  pub turned : (r : Refusal) → let-in caller.Listing M ≡ some r → ((refused r, M), lent) ≡ listed M lent
   unfolding step
-  misshapen e = rw e
+  turned r e = rw (e, not-nought r)
 
-  pub too-long : fits true M ≡ true → length lent < length (listing M) → ((refused ListingTooLong, M), lent) ≡ listed M lent
+  pub too-long : let-in caller.Listing M ≡ none → length lent < length (listing M) → ((refused ListingTooLong, M), lent) ≡ listed M lent
   unfolding step
   too-long e h = rw (e, lt-ltb _ _ h)
 
@@ -42,7 +47,7 @@ module _ (M : Machine floats) (lent : List ℕ) where
   front : (after : List ℕ) → length (listing M) ≤ length lent → after ≡ sets lent 0 (listing M) → after ≡ listing M ++ drop (length (listing M)) lent
   front after h e = e ∙ sets-eq (listing M) lent 0 (rw zero-add h) ∙ rw zero-add
 
-  pub written : {middle after : List ℕ} {k n : ℕ} → fits true M ≡ true → length (listing M) ≤ length lent → Wrote lent 0 (header (M .state)) middle k → Wrote middle k lines-written after n
+  pub written : {middle after : List ℕ} {k n : ℕ} → let-in caller.Listing M ≡ none → length (listing M) ≤ length lent → Wrote lent 0 (header (M .state)) middle k → Wrote middle k lines-written after n
       → ((counted n, M), after) ≡ listed M lent
   unfolding step
   written {after = after} {n = n} e h v w =

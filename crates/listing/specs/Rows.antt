@@ -1,4 +1,5 @@
--- Worked rows: a leaf that is no number, listed into bytes that hold nothing but ones. They shut out a listing that writes before it knows that all of it fits.
+-- Worked rows: a leaf that is no number, listed into bytes that hold nothing but ones. They shut out a listing that
+-- writes before it knows that all of it fits.
 -- `EveryRow` is proved in proofs/Rows.antt, by computation.
 use Prim.Native.Nat.{ℕ}
 use mathlib.Core.Path.{_≡_}
@@ -7,8 +8,8 @@ use mathlib.Core.List.{List, [], _∷_, _++_}
 use lib.Ieee.{nan}
 use lib.ListN.{replicate}
 use Rattle.tape.specs.Numbers.{floats}
-use Rattle.tape.specs.Machine.{Machine, machine}
-use Rattle.tape.specs.Listing.{bytes}
+use Rattle.tape.specs.Machine.{Machine, machine, state}
+use Rattle.text.specs.Numerals.{bytes}
 use Rattle.tape.specs.Answers.{Answer, refused, counted}
 use Rattle.tape.specs.Calls.{move, start}
 use Rattle.tape.specs.Kept.{fresh, after}
@@ -45,7 +46,8 @@ two-more = record { before = one-leaf; lent = ones 75; answer = counted 73; lent
 
 -- a mark past the length: refused, and every byte stays, of which there would be enough
 abbrev pub mark-past-length : Row
-mark-past-length = record { before = machine (record { length = 1; mark = 2; active = true; next = 2 }) (one-leaf .lent); lent = ones 75; answer = refused Misshapen; lent-after = ones 75 }
+mark-past-length =
+    record { before = machine (state 1 2 true 2) (one-leaf .lent); lent = ones 75; answer = refused Misshapen; lent-after = ones 75 }
 
 abbrev pub EveryRow : Type 0
 EveryRow = Holds too-few × Holds two-more × Holds mark-past-length

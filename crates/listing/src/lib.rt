@@ -1,6 +1,6 @@
 // The listing: the tape as text, byte for byte as document 01 shows it.
-mod digits;
+mod bits;
 pub mod listing;
 
-pub use digits::bits_of;
+pub use bits::bits_of;
 pub use listing::Listed;

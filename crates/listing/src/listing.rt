@@ -1,18 +1,27 @@
 // Writes the listing into lent bytes. Whether it fits is settled before any byte is written.
-use crate::digits::HEX_DIGITS;
+use crate::bits::bits_of;
+use tape::Admission;
+use tape::Caller;
+use tape::Lengths;
 use tape::Refusal;
 use tape::Tape;
+use text::decimal_length;
+use text::write_decimal;
+use text::write_hex;
+use text::write_text;
 ghost use Prim.Native.Nat.{_+_, _-_, _≤_, _<_};
 ghost use mathlib.Core.Path.{_≡_};
 ghost use mathlib.Core.List.{_++_};
 ghost use lib.Ieee.{binary64, toBits};
 ghost use lib.ListN.{length};
 ghost use Rattle.tape.specs.Numbers.{floats};
-ghost use Rattle.tape.specs.Machine.{Arrays, arrays, machine};
+ghost use Rattle.tape.specs.Machine.{Arrays, machine, lent-before, most-nodes};
 ghost use Rattle.tape.specs.Walk.{indexes};
-ghost use Rattle.tape.specs.Listing.{hex, decimal, header, line, lines, listing};
+ghost use Rattle.text.specs.Numerals.{hex, decimal};
+ghost use Rattle.text.specs.Inner.{Wrote};
+ghost use Rattle.tape.specs.Listing.{header, line, lines, listing};
 ghost use Rattle.listing.specs.Outcome.{outcome, listed};
-ghost use Rattle.listing.specs.Inner.{Wrote, shown};
+ghost use Rattle.listing.specs.Inner.{shown};
 
 // What a listing answers: how many bytes were written, or the refusal.
 pub enum Listed {
@@ -32,37 +41,42 @@ pub fn list(
     out: &mut [u8],
 ) -> Listed
     ensures { λ x. ⌜
-        (outcome x (machine tape (arrays {N = floats} (now (value .entry)) (now (adjoint .entry)) (now (serial .entry)) (now (count .entry)) (now (child .entry)) (now (partial .entry)))), now (out .exit))
-        ≡ listed (machine tape (arrays (now (value .entry)) (now (adjoint .entry)) (now (serial .entry)) (now (count .entry)) (now (child .entry)) (now (partial .entry)))) (now (out .entry)) ⌝ }
+        (outcome x (machine tape (lent-before value adjoint serial count child partial)), now (out .exit))
+        ≡ listed (machine tape (lent-before value adjoint serial count child partial)) (now (out .entry)) ⌝ }
 {
-    if !tape.admits(value, adjoint, serial, count, child, partial) {
-        return Listed::Refused(Refusal::Misshapen);
+    match tape.admit(
+        Caller::Listing,
+        Lengths::of(value, adjoint, serial, count, child, partial),
+    ) {
+        Admission::Refused(refusal) => Listed::Refused(refusal),
+        Admission::Granted => {
+            if out.len() < listing_length(tape) {
+                return Listed::Refused(Refusal::ListingTooLong);
+            }
+            let at = write_header(out, 0, tape);
+            Listed::Written(write_lines(out, at, tape.length, value, adjoint))
+        }
     }
-    if out.len() < listing_length(tape) {
-        return Listed::Refused(Refusal::ListingTooLong);
-    }
-    let at = write_header(out, 0, tape);
-    Listed::Written(write_lines(out, at, tape.length, value, adjoint))
 }
 
 // Beside its two numbers the header has three labels, the flag and a line feed.
 const HEADER_BYTES: usize = 6 + 6 + 8 + 1 + 1;
 
 // Beside its index a line has three labels, two patterns and a line feed.
-const LINE_BYTES: usize = 5 + 5 + 5 + 2 * HEX_DIGITS + 1;
+const LINE_BYTES: usize = 5 + 5 + 5 + 2 * 16 + 1;
 
 fn listing_length(tape: Tape) -> usize
-    requires { ⌜ tape .length ≤ 65535 ⌝ }
+    requires { ⌜ tape .length ≤ most-nodes ⌝ }
     ensures { λ x. ⌜ ((A : Arrays floats) → x ≡ length (listing (machine tape A))) ⌝ }
 {
-    let nodes = crate::digits::decimal_length(tape.length);
-    let mark = crate::digits::decimal_length(tape.mark);
+    let nodes = decimal_length(tape.length as u64);
+    let mark = decimal_length(tape.mark as u64);
     HEADER_BYTES + nodes + mark + lines_length(tape.length)
 }
 
 // Every index has a digit, and one more from 10, from 100, from 1,000 and from 10,000 on.
 fn lines_length(nodes: usize) -> usize
-    requires { ⌜ nodes ≤ 65535 ⌝ }
+    requires { ⌜ nodes ≤ most-nodes ⌝ }
     ensures { λ x. ⌜ ((A : Arrays floats) → x ≡ length (lines A (indexes 0 nodes))) ⌝ }
 {
     nodes * (LINE_BYTES + 1)
@@ -96,7 +110,8 @@ fn write_lines(out: &mut [u8], at: usize, nodes: usize, value: &[f64], adjoint: 
     requires { ⌜ at + length (lines (shown (now value) (now adjoint)) (indexes 0 nodes)) ≤ length (now out) ⌝ }
     requires { ⌜ nodes ≤ length (now value) ⌝ }
     requires { ⌜ nodes ≤ length (now adjoint) ⌝ }
-    ensures { λ end. ⌜ Wrote (now (out .entry)) at (lines (shown (now (value .entry)) (now (adjoint .entry))) (indexes 0 nodes)) (now (out .exit)) end ⌝ }
+    ensures { λ end. ⌜
+        Wrote (now (out .entry)) at (lines (shown (now (value .entry)) (now (adjoint .entry))) (indexes 0 nodes)) (now (out .exit)) end ⌝ }
 {
     let mut end = at;
     let mut i = 0;
@@ -111,7 +126,8 @@ fn write_line(out: &mut [u8], at: usize, i: usize, value: &[f64], adjoint: &[f64
     requires { ⌜ at + length (line (shown (now value) (now adjoint)) i) ≤ length (now out) ⌝ }
     requires { ⌜ i < length (now value) ⌝ }
     requires { ⌜ i < length (now adjoint) ⌝ }
-    ensures { λ end. ⌜ Wrote (now (out .entry)) at (line (shown (now (value .entry)) (now (adjoint .entry))) i) (now (out .exit)) end ⌝ }
+    ensures { λ end. ⌜
+        Wrote (now (out .entry)) at (line (shown (now (value .entry)) (now (adjoint .entry))) i) (now (out .exit)) end ⌝ }
 {
     let at_value = write_labelled_decimal(out, at, b"node=", i);
     let at_adjoint = write_labelled_bits(out, at_value, b" val=", value[i]);
@@ -124,26 +140,14 @@ fn write_labelled_decimal(out: &mut [u8], at: usize, label: &[u8], n: usize) -> 
     ensures { λ end. ⌜ Wrote (now (out .entry)) at (now (label .entry) ++ decimal n) (now (out .exit)) end ⌝ }
 {
     let at_number = write_text(out, at, label);
-    crate::digits::write_decimal(out, at_number, n)
+    write_decimal(out, at_number, n as u64)
 }
 
 fn write_labelled_bits(out: &mut [u8], at: usize, label: &[u8], x: f64) -> usize
     requires { ⌜ at + length (now label) + 16 ≤ length (now out) ⌝ }
-    ensures { λ end. ⌜ Wrote (now (out .entry)) at (now (label .entry) ++ hex (toBits binary64 x)) (now (out .exit)) end ⌝ }
+    ensures { λ end. ⌜
+        Wrote (now (out .entry)) at (now (label .entry) ++ hex (toBits binary64 x)) (now (out .exit)) end ⌝ }
 {
     let at_bits = write_text(out, at, label);
-    crate::digits::write_hex(out, at_bits, crate::digits::bits_of(x));
-    at_bits + HEX_DIGITS
-}
-
-fn write_text(out: &mut [u8], at: usize, text: &[u8]) -> usize
-    requires { ⌜ at + length (now text) ≤ length (now out) ⌝ }
-    ensures { λ end. ⌜ Wrote (now (out .entry)) at (now (text .entry)) (now (out .exit)) end ⌝ }
-{
-    let mut i = 0;
-    while i < text.len() {
-        out[at + i] = text[i];
-        i += 1;
-    }
-    at + i
+    write_hex(out, at_bits, bits_of(x))
 }

@@ -1,15 +1,16 @@
 // A line of a sequence: which call it is, what that is given and what the Rust answered.
 use crate::kinds;
-use crate::kinds::KINDS;
-use crate::kinds::OPERATIONS;
-use crate::kinds::STALE;
-use crate::words;
-use crate::words::DIGITS;
-use crate::words::byte_at;
-ghost use mathlib.Core.Path.{_≡_};
+use crate::tape_kinds;
+use crate::tape_kinds::KINDS;
+use crate::tape_kinds::STALE;
+use crate::words::find;
+use text::Parsed;
+use text::read_digits;
+use text::read_hex_start;
 ghost use Prim.Native.Nat.{_≤_};
 
-// The letters that words begin with: a node, a value that is detached, a number of edges. The word of a float or a digest begins with none.
+// The letters that words begin with: a node, a value that is detached, a number of edges. The word of a float or a
+// digest begins with none.
 pub const NODE: u8 = b'n';
 
 pub const DETACHED: u8 = b'p';
@@ -27,6 +28,12 @@ const WRONG: u8 = b'?';
 // A refusal of the port's, which stands in no list.
 pub const REFUSED: u8 = b'!';
 
+// The decimal digits of a number at most.
+const MOST_DIGITS: usize = 5;
+
+// The words of a line at most: two operands, what is supplied for them, and the value.
+const MOST_WORDS: usize = 6;
+
 // What a word says.
 pub struct Said {
     pub letter: u8,
@@ -38,108 +45,177 @@ pub const NO_WORD: Said = Said {
     bits: 0,
 };
 
+const WRONG_WORD: Said = Said {
+    letter: WRONG,
+    bits: 0,
+};
+
+// The words after a line's name, and how many there are.
+struct Words {
+    said: [Said; MOST_WORDS],
+    count: usize,
+}
+
+const TOO_MANY: Words = Words {
+    said: [NO_WORD; MOST_WORDS],
+    count: MOST_WORDS + 1,
+};
+
 // A call, of kind KINDS where the line is none. The Rust takes a stale one, which the port has to refuse.
 pub struct Call {
     pub kind: usize,
     pub stale: bool,
     pub left: Said,
     pub right: Said,
+    pub value: Said,
+    pub left_partial: Said,
+    pub right_partial: Said,
     pub answer: Said,
     pub values: Said,
     pub adjoints: Said,
 }
 
-// A word, and where the next one begins.
-struct Token {
-    letter: u8,
-    bits: u64,
-    end: usize,
-}
+const NO_CALL: Call = Call {
+    kind: KINDS,
+    stale: false,
+    left: NO_WORD,
+    right: NO_WORD,
+    value: NO_WORD,
+    left_partial: NO_WORD,
+    right_partial: NO_WORD,
+    answer: NO_WORD,
+    values: NO_WORD,
+    adjoints: NO_WORD,
+};
 
-impl Token {
-    fn said(self) -> Said {
-        Said {
-            letter: self.letter,
-            bits: self.bits,
-        }
-    }
-}
-
-fn no_call() -> Call
-    ensures { λ r. ⌜ r .kind ≡ 47 ⌝ }
-{
-    Call {
-        kind: KINDS,
-        stale: false,
-        left: NO_WORD,
-        right: NO_WORD,
-        answer: NO_WORD,
-        values: NO_WORD,
-        adjoints: NO_WORD,
-    }
-}
-
-pub(crate) fn read(line: &[u8]) -> Call
-    ensures { λ r. ⌜ (23 ≤ r .kind) × (r .kind ≤ 47) ⌝ }
-{
-    if kinds::kind_of(line, STALE, KINDS) != STALE {
+// The call that the line has, with the word `stale` before it or without.
+pub(crate) fn read(line: &[u8]) -> Call {
+    if kinds::tape_kind(line) != STALE {
         return read_call(line, false);
     }
-    let from = kinds::name_length(STALE) + 1;
+    let from = find(line, 0, b' ') + 1;
     if from > line.len() {
-        return no_call();
+        return NO_CALL;
     }
     read_call(&line[from..], true)
 }
 
-fn read_call(line: &[u8], stale: bool) -> Call
-    ensures { λ r. ⌜ (23 ≤ r .kind) × (r .kind ≤ 47) ⌝ }
-{
-    let kind = kinds::kind_of(line, OPERATIONS, STALE);
-    if kind == KINDS {
-        return no_call();
+fn read_call(line: &[u8], stale: bool) -> Call {
+    let kind = kinds::tape_kind(line);
+    if kind >= STALE {
+        return NO_CALL;
     }
-    let name = kinds::name_length(kind);
-    if name > line.len() {
-        return no_call();
-    }
-    let call = with_words(line, name, kind, stale);
-    if call.kind == kind {
+    let words = words_of(line, find(line, 0, b' '));
+    let call = with_words(kind, stale, words);
+    if (words.count == word_count(kind)) & is_readable(call) {
         return call;
     }
-    no_call()
+    NO_CALL
 }
 
-// The call with the words that follow its name, which ends at `from`.
-fn with_words(line: &[u8], from: usize, kind: usize, stale: bool) -> Call
-    requires { do ⌜ from ≤ (← ⟦line.len()⟧) ⌝ }
+// The words of the line from the space at `start` on.
+fn words_of(line: &[u8], start: usize) -> Words
+    requires { do ⌜ start ≤ (← ⟦line.len()⟧) ⌝ }
 {
-    let operands = kinds::call_operands(kind);
-    let digested = kinds::is_digested(kind);
-    let left = word_at(line, from, operands > 0);
-    let right = word_at(line, left.end, operands > 1);
-    let answer = word_at(line, right.end, kinds::is_answered(kind));
-    let values = word_at(line, answer.end, digested);
-    let adjoints = word_at(line, values.end, digested);
-    let call = Call {
+    let mut said = [NO_WORD; MOST_WORDS];
+    let mut count = 0;
+    let mut at = start;
+    while at < line.len() {
+        let from = at + 1;
+        let end = find(line, from, b' ');
+        if count >= MOST_WORDS {
+            return TOO_MANY;
+        }
+        said[count] = word(&line[from..end]);
+        count += 1;
+        at = end;
+    }
+    Words { said, count }
+}
+
+fn word(text: &[u8]) -> Said {
+    if text.len() == 0 {
+        return WRONG_WORD;
+    }
+    let letter = text[0];
+    match letter {
+        NODE | VISITED => parsed(letter, read_digits(&text[1..], MOST_DIGITS)),
+        DETACHED => bits(letter, &text[1..]),
+        _ => bits(BARE, text),
+    }
+}
+
+fn bits(letter: u8, text: &[u8]) -> Said {
+    if text.len() == 0 {
+        return WRONG_WORD;
+    }
+    parsed(letter, read_hex_start(text))
+}
+
+fn parsed(letter: u8, number: Parsed) -> Said {
+    match number {
+        Parsed::Number(bits) => Said { letter, bits },
+        Parsed::NotANumber => WRONG_WORD,
+    }
+}
+
+// How many words a line of this kind has.
+fn word_count(kind: usize) -> usize {
+    tape_kinds::operands_of(kind)
+        + tape_kinds::supplied_of(kind)
+        + one_if(tape_kinds::is_answered(kind))
+        + 2 * one_if(tape_kinds::is_digested(kind))
+}
+
+fn one_if(there: bool) -> usize
+    ensures { λ r. ⌜ r ≤ 1 ⌝ }
+{
+    if there { 1 } else { 0 }
+}
+
+fn with_words(kind: usize, stale: bool, words: Words) -> Call {
+    let operands = tape_kinds::operands_of(kind);
+    let supplied = tape_kinds::supplied_of(kind);
+    let given = operands + supplied;
+    let answered = tape_kinds::is_answered(kind);
+    let values = given + one_if(answered);
+    let adjoints = values + 1;
+    let digested = tape_kinds::is_digested(kind);
+    Call {
         kind,
         stale,
-        left: left.said(),
-        right: right.said(),
-        answer: answer.said(),
-        values: values.said(),
-        adjoints: adjoints.said(),
-    };
-    if (adjoints.end == line.len()) & is_readable(call) {
-        return call;
+        left: words.at(0, operands > 0),
+        right: words.at(1, operands > 1),
+        value: words.at(operands, supplied > 0),
+        left_partial: words.at(operands + 1, supplied > 1),
+        right_partial: words.at(operands + 2, supplied > 2),
+        answer: words.at(given, answered),
+        values: words.at(values, digested),
+        adjoints: words.at(adjoints, digested),
     }
-    no_call()
 }
 
-// An operand is a node or a float, a digest is a bare word.
+impl Words {
+    // The word at an index, if one is wanted there.
+    fn at(self, index: usize, wanted: bool) -> Said {
+        if !wanted {
+            return NO_WORD;
+        }
+        if index >= MOST_WORDS {
+            return NO_WORD;
+        }
+        let said = self.said;
+        said[index]
+    }
+}
+
+// An operand is a node or a float; what is supplied and a digest are bare words.
 fn is_readable(call: Call) -> bool {
     is_operand(call.left)
         & is_operand(call.right)
+        & is_bare(call.value)
+        & is_bare(call.left_partial)
+        & is_bare(call.right_partial)
         & (call.answer.letter != WRONG)
         & is_bare(call.values)
         & is_bare(call.adjoints)
@@ -151,81 +227,4 @@ fn is_operand(word: Said) -> bool {
 
 fn is_bare(word: Said) -> bool {
     (word.letter == BARE) | (word.letter == ABSENT)
-}
-
-// The word whose space stands at `at`, if one is wanted there.
-fn word_at(line: &[u8], at: usize, wanted: bool) -> Token
-    requires { do ⌜ at ≤ (← ⟦line.len()⟧) ⌝ }
-    ensures { λ r. do ⌜ r .end ≤ (← ⟦line.len()⟧ .entry) ⌝ }
-{
-    if !wanted {
-        return Token {
-            letter: ABSENT,
-            bits: 0,
-            end: at,
-        };
-    }
-    if byte_at(line, at) != b' ' {
-        return wrong(at);
-    }
-    let from = at + 1;
-    if from > line.len() {
-        return wrong(at);
-    }
-    let end = words::find(line, from, b' ');
-    match byte_at(line, from) {
-        NODE => number(line, NODE, from + 1, end),
-        VISITED => number(line, VISITED, from + 1, end),
-        DETACHED => word(line, DETACHED, from + 1, end),
-        _ => word(line, BARE, from, end),
-    }
-}
-
-fn wrong(end: usize) -> Token
-    ensures { λ r. ⌜ r .end ≤ end ⌝ }
-{
-    Token {
-        letter: WRONG,
-        bits: 0,
-        end,
-    }
-}
-
-fn number(line: &[u8], letter: u8, from: usize, end: usize) -> Token
-    requires { do ⌜ end ≤ (← ⟦line.len()⟧) ⌝ }
-    ensures { λ r. ⌜ r .end ≤ end ⌝ }
-{
-    if from > end {
-        return wrong(end);
-    }
-    let number = words::read_number(line, from, end);
-    if !number.good {
-        return wrong(end);
-    }
-    Token {
-        letter,
-        bits: number.bits,
-        end,
-    }
-}
-
-fn word(line: &[u8], letter: u8, from: usize, end: usize) -> Token
-    requires { do ⌜ end ≤ (← ⟦line.len()⟧) ⌝ }
-    ensures { λ r. ⌜ r .end ≤ end ⌝ }
-{
-    if from >= end {
-        return wrong(end);
-    }
-    if end - from > DIGITS {
-        return wrong(end);
-    }
-    let word = words::read_word(line, from, end);
-    if !word.good {
-        return wrong(end);
-    }
-    Token {
-        letter,
-        bits: word.bits,
-        end,
-    }
 }

@@ -6,29 +6,24 @@ use crate::table;
 use crate::tally::Tally;
 use crate::words::byte_at;
 
-// Carries the case out, tells a difference or that it is no case, and counts it.
+// Carries the case out, reports a difference or that it is no case, and counts it.
 pub(crate) fn replay(list: &[u8], subject: Subject, case: &[u8], before: Tally) -> Tally {
     match subject {
-        Subject::Fwd1 => orders::replay(list, 1, case, before.next_line()),
-        Subject::Fwd2 => orders::replay(list, 2, case, before.next_line()),
-        Subject::Fwd3 => orders::replay(list, 3, case, before.next_line()),
-        Subject::Fwd4 => orders::replay(list, 4, case, before.next_line()),
+        Subject::Forward(order) => orders::replay(list, order, case, before.next_line()),
         Subject::Table => table::replay(list, case, before.next_line()),
         Subject::Sequences => sequences::replay(list, case, before),
         Subject::Stale => sequences::replay(list, case, before),
     }
 }
 
-// Whether the byte ends a case, of which `pending` bytes are there: a line feed ends a line, and an empty line a sequence.
+// Whether the byte ends a case, of which `pending` bytes are there: a line feed ends a line, and an empty line a
+// sequence.
 pub(crate) fn is_end(subject: Subject, byte: u8, case: &[u8], pending: usize) -> bool {
     if byte != b'\n' {
         return false;
     }
     match subject {
-        Subject::Fwd1 => true,
-        Subject::Fwd2 => true,
-        Subject::Fwd3 => true,
-        Subject::Fwd4 => true,
+        Subject::Forward(_) => true,
         Subject::Table => true,
         Subject::Sequences => ends_in_a_feed(case, pending),
         Subject::Stale => ends_in_a_feed(case, pending),

@@ -14,8 +14,19 @@ struct Progress {
     pending: usize,
 }
 
-// Replays the file, which the list is named after.
-pub(crate) fn replay(list: &[u8], subject: Subject, file: i32) {
+// The end of a file's name, which a list's name lacks.
+const ENDING: usize = 4;
+
+// Replays the list in the file `NAME.txt`.
+pub(crate) fn replay(path: &[u8], subject: Subject) {
+    if path.len() < ENDING {
+        return;
+    }
+    let name = path.len() - ENDING;
+    replay_file(&path[0..name], subject, os::open_read(path));
+}
+
+fn replay_file(list: &[u8], subject: Subject, file: i32) {
     if file < 0 {
         report::unreadable(list);
         return;
@@ -26,7 +37,8 @@ pub(crate) fn replay(list: &[u8], subject: Subject, file: i32) {
     report::summary(list, subject, tally);
 }
 
-// A proved loop has to end, and nothing says that a file does. So the loop counts its turns down, from a number that no run uses up.
+// A proved loop has to end, and nothing says that a file does. So the loop counts its turns down, from a number that no
+// run uses up.
 fn replay_all(list: &[u8], subject: Subject, file: i32, case: &mut [u8]) -> Tally {
     let mut space = io::large_buffer();
     let piece: &mut [u8] = &mut space;

@@ -1,7 +1,9 @@
 // Replays recorded answers of the Rust with the port's own calls, and compares every word of them (docs/REPLAY.md).
 mod calls;
+mod carry_out;
 mod cases;
 mod comparison;
+mod forward_kinds;
 mod kinds;
 mod lists;
 mod nodes;
@@ -12,54 +14,45 @@ mod order4;
 mod orders;
 mod report;
 mod sequences;
-mod session;
 mod table;
 mod tally;
+mod tape_kinds;
 mod words;
 
 use kinds::Subject;
+use lists::replay;
 
 fn main() {
-    recorded();
+    forward_lists();
+    tape_lists();
     // Without them, a comparison that sees nothing would pass for one that finds nothing.
     report::text(b"control: each of these must differ\n");
     controls();
 }
 
-fn recorded() {
-    lists::replay(b"fwd1", Subject::Fwd1, os::open_read(b"fwd1.txt"));
-    lists::replay(b"fwd2", Subject::Fwd2, os::open_read(b"fwd2.txt"));
-    lists::replay(b"fwd3", Subject::Fwd3, os::open_read(b"fwd3.txt"));
-    lists::replay(b"fwd4", Subject::Fwd4, os::open_read(b"fwd4.txt"));
-    lists::replay(b"table", Subject::Table, os::open_read(b"table.txt"));
-    lists::replay(
-        b"sequences",
-        Subject::Sequences,
-        os::open_read(b"sequences.txt"),
-    );
-    lists::replay(
-        b"sessions",
-        Subject::Sequences,
-        os::open_read(b"sessions.txt"),
-    );
-    lists::replay(b"stale", Subject::Stale, os::open_read(b"stale.txt"));
+fn forward_lists() {
+    replay(b"fwd1.txt", Subject::Forward(1));
+    replay(b"fwd2.txt", Subject::Forward(2));
+    replay(b"fwd3.txt", Subject::Forward(3));
+    replay(b"fwd4.txt", Subject::Forward(4));
+}
+
+fn tape_lists() {
+    replay(b"table.txt", Subject::Table);
+    replay(b"sequences.txt", Subject::Sequences);
+    replay(b"sessions.txt", Subject::Sequences);
+    replay(b"stale.txt", Subject::Stale);
+    replay(b"supplied_table.txt", Subject::Table);
+    replay(b"supplied_sequences.txt", Subject::Sequences);
+    replay(b"supplied_sessions.txt", Subject::Sequences);
 }
 
 fn controls() {
-    lists::replay(b"control", Subject::Fwd1, os::open_read(b"control.txt"));
-    lists::replay(
-        b"table_control",
-        Subject::Table,
-        os::open_read(b"table_control.txt"),
-    );
-    lists::replay(
-        b"sequences_control",
-        Subject::Sequences,
-        os::open_read(b"sequences_control.txt"),
-    );
-    lists::replay(
-        b"sessions_control",
-        Subject::Sequences,
-        os::open_read(b"sessions_control.txt"),
-    );
+    replay(b"control.txt", Subject::Forward(1));
+    replay(b"table_control.txt", Subject::Table);
+    replay(b"sequences_control.txt", Subject::Sequences);
+    replay(b"sessions_control.txt", Subject::Sequences);
+    replay(b"supplied_table_control.txt", Subject::Table);
+    replay(b"supplied_sequences_control.txt", Subject::Sequences);
+    replay(b"supplied_sessions_control.txt", Subject::Sequences);
 }

@@ -4,7 +4,8 @@ use expr::Recorded;
 use expr::Supplied;
 use expr::recording::record;
 use listing::bits_of;
-use tape::Moved;
+use tape::Handle;
+use tape::MOST_EDGES;
 use tape::Operand;
 use tape::Tape;
 ghost use Prim.Native.Nat.{_<_};
@@ -12,23 +13,27 @@ ghost use Prim.Native.Nat.{_<_};
 // Two operands, the node, and one to spare.
 const CAPACITY: usize = 4;
 
-const SLOTS: usize = 2 * CAPACITY;
+const SLOTS: usize = MOST_EDGES * CAPACITY;
 
-// What the arrays hold at first, no count or child that a node here can have and an unlikely float, so that what the port leaves unwritten is seen.
+// What the arrays hold at first, no count or child that a node here can have and an unlikely float, so that what the
+// port leaves unwritten is seen.
 pub const NO_COUNT: u8 = 0xff;
 
 pub const NO_CHILD: u16 = 0xffff;
 
 pub const UNLIKELY: f64 = 0.7;
 
-// What is supplied for operations 0 to 7, which do not use it.
-pub const NOTHING: Supplied = Supplied {
-    value: 0.0,
-    left: 0.0,
-    right: 0.0,
+const FIRST: Handle = Handle {
+    index: 0,
+    serial: 1,
 };
 
-// An operand as a case has it: the word of its value, and whether it is put on the tape first.
+const SECOND: Handle = Handle {
+    index: 1,
+    serial: 2,
+};
+
+// An operand as a case has it: the word of its value, and whether it stands on the tape.
 pub struct Given {
     pub on_tape: bool,
     pub bits: u64,
@@ -53,20 +58,35 @@ pub enum Outcome {
     Refused(u8),
 }
 
-// An operand as the port takes it, with the tape after it was put there.
-struct Placed {
-    operand: Operand,
-    tape: Tape,
+// What is supplied, of which a line has the first `count` words. An operation has to leave the others alone.
+pub(crate) fn supplied(count: usize, value: u64, left: u64, right: u64) -> Supplied {
+    Supplied {
+        value: float_if(count > 0, value),
+        left: float_if(count > 1, left),
+        right: float_if(count > 2, right),
+    }
 }
 
-pub(crate) fn carry_out(op: u8, left: Given, right: Given) -> Outcome {
-    let mut value = [0.0; CAPACITY];
-    let mut adjoint = [0.0; CAPACITY];
+fn float_if(there: bool, bits: u64) -> f64 {
+    if there { float_of(bits) } else { UNLIKELY }
+}
+
+// Records the operation beside two leaves: the first has the value of the first operand that is on the tape, the second
+// that of the right one.
+pub(crate) fn carry_out(op: u8, left: Given, right: Given, given: Supplied) -> Outcome {
+    let mut value = [UNLIKELY; CAPACITY];
+    let mut adjoint = [UNLIKELY; CAPACITY];
     let mut serial = [0u64; CAPACITY];
     let mut count = [NO_COUNT; CAPACITY];
     let mut child = [NO_CHILD; SLOTS];
     let mut partial = [UNLIKELY; SLOTS];
-    let recorded = record_on(
+    let first = if left.on_tape { left.bits } else { right.bits };
+    value[0] = float_of(first);
+    value[1] = float_of(right.bits);
+    serial[0] = 1;
+    serial[1] = 2;
+    let recorded = record(
+        two_leaves(),
         &mut value,
         &mut adjoint,
         &mut serial,
@@ -74,8 +94,9 @@ pub(crate) fn carry_out(op: u8, left: Given, right: Given) -> Outcome {
         &mut child,
         &mut partial,
         op,
-        left,
-        right,
+        operand(left, false),
+        operand(right, left.on_tape),
+        given,
     );
     match recorded {
         Recorded::Node(v, handle, _) => node_at(handle.index, v, &count, &child, &partial),
@@ -84,139 +105,24 @@ pub(crate) fn carry_out(op: u8, left: Given, right: Given) -> Outcome {
     }
 }
 
-// Starts the tape, places the left operand and then the right one, and records.
-fn record_on(
-    value: &mut [f64],
-    adjoint: &mut [f64],
-    serial: &mut [u64],
-    count: &mut [u8],
-    child: &mut [u16],
-    partial: &mut [f64],
-    op: u8,
-    left: Given,
-    right: Given,
-) -> Recorded {
-    let placed = place(
-        started(),
-        &mut *value,
-        &mut *adjoint,
-        &mut *serial,
-        &mut *count,
-        &mut *child,
-        &mut *partial,
-        left,
-    );
-    let operand = placed.operand;
-    record_beside(
-        placed.tape,
-        value,
-        adjoint,
-        serial,
-        count,
-        child,
-        partial,
-        op,
-        operand,
-        right,
-    )
+// The tape as two leaves leave it.
+fn two_leaves() -> Tape {
+    let mut tape = Tape::new();
+    tape.length = 2;
+    tape.active = true;
+    tape.next = 3;
+    tape
 }
 
-// Records with the left operand already in its place.
-fn record_beside(
-    tape: Tape,
-    value: &mut [f64],
-    adjoint: &mut [f64],
-    serial: &mut [u64],
-    count: &mut [u8],
-    child: &mut [u16],
-    partial: &mut [f64],
-    op: u8,
-    left: Operand,
-    right: Given,
-) -> Recorded {
-    let placed = place(
-        tape,
-        &mut *value,
-        &mut *adjoint,
-        &mut *serial,
-        &mut *count,
-        &mut *child,
-        &mut *partial,
-        right,
-    );
-    let operand = placed.operand;
-    record(
-        placed.tape,
-        value,
-        adjoint,
-        serial,
-        count,
-        child,
-        partial,
-        op,
-        left,
-        operand,
-        NOTHING,
-    )
-}
-
-fn started() -> Tape {
-    match Tape::new().start_recording() {
-        Moved::Done(tape) => tape,
-        Moved::Refused(_, tape) => tape,
-    }
-}
-
-// Puts the operand on the tape as a leaf, if the case has it there.
-fn place(
-    tape: Tape,
-    value: &mut [f64],
-    adjoint: &mut [f64],
-    serial: &mut [u64],
-    count: &mut [u8],
-    child: &mut [u16],
-    partial: &mut [f64],
-    given: Given,
-) -> Placed {
-    let number = Operand::Number(float_of(given.bits));
+// The operand as the port takes it, the first or the second leaf where it is on the tape.
+fn operand(given: Given, second: bool) -> Operand {
     if !given.on_tape {
-        return Placed {
-            operand: number,
-            tape,
-        };
+        return Operand::Number(float_of(given.bits));
     }
-    let leaf = record(
-        tape,
-        value,
-        adjoint,
-        serial,
-        count,
-        child,
-        partial,
-        0,
-        number,
-        number,
-        NOTHING,
-    );
-    after_leaf(leaf, number)
-}
-
-// A leaf that the port did not record stays a number, and is missed among the edges.
-fn after_leaf(leaf: Recorded, number: Operand) -> Placed {
-    match leaf {
-        Recorded::Node(_, handle, tape) => Placed {
-            operand: Operand::Node(handle),
-            tape,
-        },
-        Recorded::Detached(_, tape) => Placed {
-            operand: number,
-            tape,
-        },
-        Recorded::Refused(_, tape) => Placed {
-            operand: number,
-            tape,
-        },
+    if second {
+        return Operand::Node(SECOND);
     }
+    Operand::Node(FIRST)
 }
 
 fn node_at(
@@ -229,7 +135,7 @@ fn node_at(
     if index >= CAPACITY {
         return Outcome::NoNode;
     }
-    let first = 2 * index;
+    let first = MOST_EDGES * index;
     Outcome::Node(Node {
         value: bits_of(v),
         count: count[index],
@@ -239,7 +145,7 @@ fn node_at(
 }
 
 fn edge_at(child: &[u16; SLOTS], partial: &[f64; SLOTS], at: usize) -> Edge
-    requires { ⌜ at < 8 ⌝ }
+    requires { do ⌜ at < (← ⟦SLOTS⟧) ⌝ }
 {
     Edge {
         child: child[at],

@@ -1,6 +1,6 @@
 // A case of order 1, carried out by the port's Fwd1.
 use crate::comparison::compared;
-use crate::kinds::*;
+use crate::forward_kinds::*;
 use crate::words::Answer;
 use crate::words::Case;
 use crate::words::float_of;

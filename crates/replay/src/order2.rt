@@ -1,6 +1,6 @@
 // A case of order 2, carried out by the port's Fwd2.
 use crate::comparison::compared;
-use crate::kinds::*;
+use crate::forward_kinds::*;
 use crate::order1;
 use crate::words::Answer;
 use crate::words::Case;

@@ -1,6 +1,6 @@
 // A case of order 3, carried out by the port's Fwd3.
 use crate::comparison::compared;
-use crate::kinds::*;
+use crate::forward_kinds::*;
 use crate::order2;
 use crate::words::Answer;
 use crate::words::Case;

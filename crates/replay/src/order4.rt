@@ -1,6 +1,6 @@
 // A case of order 4, carried out by the port's Fwd4.
 use crate::comparison::compared;
-use crate::kinds::*;
+use crate::forward_kinds::*;
 use crate::order3;
 use crate::words::Answer;
 use crate::words::Case;

@@ -1,32 +1,30 @@
 // A line of a list of forward numbers, carried out by the port and compared.
+use crate::forward_kinds;
 use crate::kinds;
-use crate::kinds::KINDS;
-use crate::kinds::OPERATIONS;
 use crate::order1;
 use crate::order2;
 use crate::order3;
 use crate::order4;
 use crate::report;
 use crate::tally::Tally;
+use crate::tape_kinds::KINDS;
 use crate::words;
 use crate::words::Answer;
 use crate::words::Case;
 use crate::words::PLACES;
-ghost use Prim.Native.Nat.{_≤_};
+use crate::words::find;
 
-// Carries the line out, tells a difference or that it is no case, and counts it.
-pub(crate) fn replay(list: &[u8], order: usize, line: &[u8], tally: Tally) -> Tally
-    requires { ⌜ order ≤ 4 ⌝ }
-{
-    let kind = kinds::kind_of(line, 0, OPERATIONS);
+// Carries the line out, reports a difference or that it is no case, and counts it.
+pub(crate) fn replay(list: &[u8], order: usize, line: &[u8], tally: Tally) -> Tally {
+    let kind = kinds::forward_kind(line);
     if kind == KINDS {
         return report::malformed(list, tally);
     }
-    let size = kinds::number_words(order);
-    let operands = kinds::operand_words(kind, size);
-    let answers = kinds::answer_words(kind, order, size);
-    let name = kinds::name_length(kind);
-    if line.len() != name + PLACES * (operands + answers) {
+    let size = forward_kinds::number_words(order);
+    let operands = forward_kinds::operand_words(kind, size);
+    let answers = forward_kinds::answer_words(kind, order, size);
+    let name = find(line, 0, b' ');
+    if line.len() - name != PLACES * (operands + answers) {
         return report::malformed(list, tally);
     }
     let mut case: Case = [0; 48];
@@ -36,10 +34,10 @@ pub(crate) fn replay(list: &[u8], order: usize, line: &[u8], tally: Tally) -> Ta
     let mut got: Answer = [0; 16];
     carry_out(order, kind, &case, &mut got);
     if words::is_same(&case, operands, &got, answers) {
-        return tally.agrees(kind);
+        return tally.next_case(kind, true, false);
     }
-    report::difference(list, tally.lines, kind, &got, answers);
-    tally.differs(kind)
+    report::difference(list, tally.lines, line, &got, answers);
+    tally.next_case(kind, false, false)
 }
 
 fn carry_out(order: usize, kind: usize, case: &Case, got: &mut Answer) {

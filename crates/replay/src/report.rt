@@ -4,17 +4,22 @@ use crate::calls::DETACHED;
 use crate::calls::REFUSED;
 use crate::calls::Said;
 use crate::calls::VISITED;
+use crate::carry_out::Heard;
 use crate::kinds;
+use crate::kinds::FORWARD;
 use crate::kinds::Subject;
+use crate::kinds::TAPE;
 use crate::nodes::Edge;
 use crate::nodes::Node;
 use crate::nodes::Outcome;
-use crate::session::Heard;
+use crate::tally::Count;
 use crate::tally::Tally;
+use crate::tape_kinds::is_digested;
 use crate::words::Answer;
 use crate::words::DIGITS;
+use crate::words::find;
 use libc::STDOUT_FILENO;
-ghost use Prim.Native.Nat.{_≤_, _<_};
+ghost use Prim.Native.Nat.{_≤_};
 
 pub(crate) fn text(bytes: &[u8]) {
     io::write_all(STDOUT_FILENO, bytes);
@@ -34,33 +39,27 @@ pub(crate) fn malformed(list: &[u8], tally: Tally) -> Tally {
 }
 
 // The first `count` of the words that the port got.
-pub(crate) fn difference(list: &[u8], line: u64, kind: usize, got: &Answer, count: usize)
-    requires { ⌜ (kind < 47) × (count ≤ 16) ⌝ }
+pub(crate) fn difference(list: &[u8], at: u64, line: &[u8], got: &Answer, count: usize)
+    requires { ⌜ count ≤ 16 ⌝ }
 {
-    place(list, line);
-    kinds::write_name(kind);
-    text(b" got");
+    case(list, at, line);
     first_words(got, count);
     text(b"\n");
 }
 
 // What the port made of an operation.
-pub(crate) fn outcome(list: &[u8], line: u64, kind: usize, got: Outcome)
-    requires { ⌜ kind < 47 ⌝ }
-{
-    place(list, line);
-    kinds::write_name(kind);
+pub(crate) fn outcome(list: &[u8], at: u64, line: &[u8], got: Outcome) {
+    case(list, at, line);
     match got {
         Outcome::Node(node) => recorded(node),
-        Outcome::NoNode => text(b" got no node"),
-        Outcome::Refused(number) => count(b" got refusal ", number as u64),
+        Outcome::NoNode => text(b" no node"),
+        Outcome::Refused(number) => count(b" refusal ", number as u64),
     }
     text(b"\n");
 }
 
 // The value, and each edge's partial and child.
 fn recorded(node: Node) {
-    text(b" got");
     word(node.value);
     if node.count > 0 {
         edge(node.first);
@@ -77,15 +76,10 @@ fn edge(edge: Edge) {
 }
 
 // What the port answered to a call of a sequence.
-pub(crate) fn heard(list: &[u8], line: u64, kind: usize, heard: Heard)
-    requires { ⌜ kind < 47 ⌝ }
-{
-    place(list, line);
-    kinds::write_name(kind);
-    text(b" got");
-    let answer = heard.answer;
-    said(answer);
-    if kinds::is_digested(kind) {
+pub(crate) fn heard(list: &[u8], at: u64, line: &[u8], kind: usize, heard: Heard) {
+    case(list, at, line);
+    said(heard.answer);
+    if is_digested(kind) {
         word(heard.values);
         word(heard.adjoints);
     }
@@ -120,16 +114,29 @@ fn word(bits: u64) {
     lettered(b" ", bits);
 }
 
-fn place(list: &[u8], line: u64) {
+// Where the case stands, and its name.
+fn case(list: &[u8], at: u64, line: &[u8]) {
+    place(list, at);
+    let name = find(line, 0, b' ');
+    text(&line[0..name]);
+    text(b" got");
+}
+
+fn place(list: &[u8], at: u64) {
     text(list);
     text(b".txt:");
-    io::print_decimal(STDOUT_FILENO, line);
+    io::print_decimal(STDOUT_FILENO, at);
     text(b": ");
 }
 
+// How many cases there were of each kind, how many of them differ, and how many lines are no case.
 pub(crate) fn summary(list: &[u8], subject: Subject, tally: Tally) {
-    let kinds = kinds::kinds_of(subject);
-    each_kind(list, kinds.first, kinds.end, tally);
+    match subject {
+        Subject::Forward(_) => each_kind(list, subject, &FORWARD, tally),
+        Subject::Table => each_of_the_tape(list, subject, tally),
+        Subject::Sequences => each_of_the_tape(list, subject, tally),
+        Subject::Stale => each_of_the_tape(list, subject, tally),
+    }
     if tally.runs > 0 {
         text(list);
         counts(b" runs=", tally.runs, tally.broken_runs);
@@ -140,26 +147,31 @@ pub(crate) fn summary(list: &[u8], subject: Subject, tally: Tally) {
     text(b"\n");
 }
 
-fn each_kind(list: &[u8], first: usize, end: usize, tally: Tally)
-    requires { ⌜ (first ≤ end) × (end ≤ 47) ⌝ }
-{
-    for kind in first..end {
-        let cases = tally.cases[kind];
-        let differ = tally.differ[kind];
-        let apart = tally.apart[kind];
-        of_kind(list, kind, cases, differ, apart);
+fn each_of_the_tape(list: &[u8], subject: Subject, tally: Tally) {
+    each_kind(list, subject, &TAPE, tally);
+}
+
+fn each_kind(list: &[u8], subject: Subject, names: &[u8], tally: Tally) {
+    let mut kind = 0;
+    let mut from = 0;
+    while from < names.len() {
+        let end = find(names, from, b' ');
+        of_kind(list, subject, &names[from..end], kind, tally.of(kind));
+        kind += 1;
+        from = end + 1;
     }
 }
 
-fn of_kind(list: &[u8], kind: usize, cases: u64, differ: u64, apart: u64)
-    requires { ⌜ kind < 47 ⌝ }
-{
+fn of_kind(list: &[u8], subject: Subject, name: &[u8], kind: usize, counted: Count) {
+    if !kinds::is_reported(subject, kind, counted.cases) {
+        return;
+    }
     text(list);
     text(b" ");
-    kinds::write_name(kind);
-    counts(b" cases=", cases, differ);
-    if apart > 0 {
-        count(b" apart=", apart);
+    text(name);
+    counts(b" cases=", counted.cases, counted.differ);
+    if counted.apart > 0 {
+        count(b" apart=", counted.apart);
     }
     text(b"\n");
 }

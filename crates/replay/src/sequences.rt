@@ -4,23 +4,25 @@ use crate::calls::Call;
 use crate::calls::NODE;
 use crate::calls::REFUSED;
 use crate::calls::Said;
-use crate::kinds::END;
-use crate::kinds::KINDS;
-use crate::kinds::STALE;
+use crate::carry_out;
+use crate::carry_out::Heard;
+use crate::carry_out::with_digests;
 use crate::nodes::NO_CHILD;
 use crate::nodes::NO_COUNT;
 use crate::nodes::UNLIKELY;
+use crate::nodes::supplied;
 use crate::report;
-use crate::session;
-use crate::session::Heard;
-use crate::session::NO_NODE;
 use crate::tally::Tally;
+use crate::tape_kinds;
+use crate::tape_kinds::END;
+use crate::tape_kinds::STALE;
 use crate::words::find;
 use crate::words::float_of;
+use expr::Supplied;
 use tape::Handle;
+use tape::MOST_NODES;
 use tape::Operand;
 use tape::Tape;
-ghost use Prim.Native.Nat.{_<_};
 
 // More nodes than a sequence has on the tape.
 const CAPACITY: usize = 400;
@@ -38,7 +40,8 @@ struct Run {
     tape: Tape,
     // Whether another call may come.
     going: bool,
-    // Whether a line differs or is no call. What comes after it is left out, since the two tapes may be unlike from there on.
+    // Whether a line differs or is no call. What comes after it is left out, since the two tapes may be unlike from
+    // there on.
     broken: bool,
     tally: Tally,
 }
@@ -117,10 +120,12 @@ fn one_line(
         return run.after_the_end(list);
     }
     let call = calls::read(line);
-    if call.kind == KINDS {
+    if call.kind >= STALE {
         return run.malformed(list);
     }
-    let heard = session::carry_out(
+    let left = operand(&*places, call.left);
+    let right = operand(&*places, call.right);
+    let heard = carry_out::carry_out(
         run.tape,
         value,
         adjoint,
@@ -129,11 +134,23 @@ fn one_line(
         child,
         partial,
         call.kind,
-        operand(&*places, call.left),
-        operand(&*places, call.right),
+        left,
+        right,
+        given(call),
     );
     keep(places, heard.node);
-    run.judged(list, call, heard)
+    let digested = with_digests(heard, call.kind, &*value, &*adjoint);
+    run.judged(list, line, call, digested)
+}
+
+fn given(call: Call) -> Supplied {
+    let count = tape_kinds::supplied_of(call.kind);
+    supplied(
+        count,
+        call.value.bits,
+        call.left_partial.bits,
+        call.right_partial.bits,
+    )
 }
 
 fn operand(places: &[u16], word: Said) -> Operand {
@@ -145,7 +162,7 @@ fn operand(places: &[u16], word: Said) -> Operand {
 
 fn handle(places: &[u16], serial: u64) -> Handle {
     if serial >= places.len() as u64 {
-        return NO_NODE;
+        return Handle::NEVER_LIVE;
     }
     let at = serial as usize;
     handle_at(places[at], serial)
@@ -163,7 +180,7 @@ fn keep(places: &mut [u16], node: Handle) {
     if node.serial >= places.len() as u64 {
         return;
     }
-    if node.index > 65_535 {
+    if node.index > MOST_NODES {
         return;
     }
     let at = node.serial as usize;
@@ -215,18 +232,16 @@ impl Run {
         run.tally.next_run(run.broken)
     }
 
-    fn judged(self, list: &[u8], call: Call, heard: Heard) -> Run
-        requires { ⌜ call .kind < 47 ⌝ }
-    {
+    fn judged(self, list: &[u8], line: &[u8], call: Call, heard: Heard) -> Run {
         let mut run = self.after(heard);
         let kind = counted_as(call);
-        if agrees(call, heard) {
-            run.tally = run.tally.agrees(kind);
+        let agrees = agrees(call, heard);
+        run.tally = run.tally.next_case(kind, agrees, false);
+        if agrees {
             run.going = (kind != END) & (kind != STALE);
             return run;
         }
-        report::heard(list, run.tally.lines, kind, heard);
-        run.tally = run.tally.differs(kind);
+        report::heard(list, run.tally.lines, line, kind, heard);
         run.broken()
     }
 
@@ -237,10 +252,7 @@ impl Run {
     }
 }
 
-fn counted_as(call: Call) -> usize
-    requires { ⌜ call .kind < 47 ⌝ }
-    ensures { λ r. ⌜ r < 47 ⌝ }
-{
+fn counted_as(call: Call) -> usize {
     if call.stale { STALE } else { call.kind }
 }
 

@@ -1,5 +1,7 @@
 // A float's 64 bits, as they stand in a list: 16 lower-case hex digits. Any NaN counts as one NaN.
 use listing::bits_of;
+use text::Parsed;
+use text::read_hex;
 ghost use mathlib.Core.Path.{_≡_};
 ghost use Prim.Native.Nat.{_+_, _*_, _≤_};
 ghost use lib.Ieee.{binary64, nanBits};
@@ -15,24 +17,11 @@ pub type Case = [u64; 48];
 // The words that the port got: at most a number of order 4.
 pub type Answer = [u64; 16];
 
-const NOT_A_DIGIT: u8 = 16;
-
 const SIGN: u64 = 0x8000_0000_0000_0000;
 
 const INFINITY: u64 = 0x7ff0_0000_0000_0000;
 
 pub const NAN: u64 = 0x7ff8_0000_0000_0000;
-
-// What was read as a word: its bits, and whether each of its digits was one.
-pub struct Word {
-    pub bits: u64,
-    pub good: bool,
-}
-
-const NO_WORD: Word = Word {
-    bits: 0,
-    good: false,
-};
 
 // The byte at an index, and past the end one that stands in no case.
 pub(crate) fn byte_at(line: &[u8], at: usize) -> u8 {
@@ -52,62 +41,14 @@ pub(crate) fn find(line: &[u8], from: usize, byte: u8) -> usize
     line.len()
 }
 
-// The word whose first digit stands at `from`. Digits that would stand at `end` or after it are zeros.
-pub(crate) fn read_word(line: &[u8], from: usize, end: usize) -> Word
-    requires { do ⌜ (from ≤ end) × (end ≤ (← ⟦line.len()⟧)) ⌝ }
-{
-    let mut bits = 0;
-    let mut good = true;
-    for i in 0..DIGITS {
-        let digit = digit_at(line, from + i, end);
-        if digit == NOT_A_DIGIT {
-            good = false;
+// Whether a line begins with the word, and goes on with a space or not at all.
+pub(crate) fn is_first_word(line: &[u8], word: &[u8]) -> bool {
+    for i in 0..word.len() {
+        if byte_at(line, i) != word[i] {
+            return false;
         }
-        bits = bits << 4 | wide(digit);
     }
-    Word { bits, good }
-}
-
-// The number that is written from `from` to `end`, of five decimal digits at most.
-pub(crate) fn read_number(line: &[u8], from: usize, end: usize) -> Word
-    requires { do ⌜ (from ≤ end) × (end ≤ (← ⟦line.len()⟧)) ⌝ }
-    ensures { λ r. ⌜ r .bits ≤ 99999 ⌝ }
-{
-    let mut bits = 0;
-    for at in from..end {
-        let digit = digit_of(line[at]);
-        if digit > 9 {
-            return NO_WORD;
-        }
-        if bits > 9_999 {
-            return NO_WORD;
-        }
-        bits = 10 * bits + wide(digit);
-    }
-    Word {
-        bits,
-        good: from < end,
-    }
-}
-
-fn digit_at(line: &[u8], at: usize, end: usize) -> u8
-    requires { do ⌜ end ≤ (← ⟦line.len()⟧) ⌝ }
-{
-    if at < end { digit_of(line[at]) } else { 0 }
-}
-
-fn digit_of(byte: u8) -> u8 {
-    match byte {
-        b'0'..=b'9' => byte - b'0',
-        b'a'..=b'f' => byte - b'a' + 10,
-        _ => NOT_A_DIGIT,
-    }
-}
-
-fn wide(x: u8) -> u64
-    ensures { λ r. ⌜ r ≡ x ⌝ }
-{
-    x as u64
+    (byte_at(line, word.len()) == b' ') | (line.len() == word.len())
 }
 
 // Reads `count` words, the first with its space at `from`, and answers whether all are words.
@@ -116,14 +57,16 @@ pub(crate) fn read_words(line: &[u8], from: usize, count: usize, case: &mut Case
 {
     for i in 0..count {
         let at = from + PLACES * i;
+        let first = at + 1;
+        let end = at + PLACES;
+        let word = read_hex(&line[first..end]);
+        let Parsed::Number(bits) = word else {
+            return false;
+        };
         if line[at] != b' ' {
             return false;
         }
-        let word = read_word(line, at + 1, at + PLACES);
-        if !word.good {
-            return false;
-        }
-        case[i] = one_nan(word.bits);
+        case[i] = one_nan(bits);
     }
     true
 }
@@ -160,7 +103,8 @@ pub(crate) fn is_same(case: &Case, from: usize, got: &Answer, count: usize) -> b
     true
 }
 
-// One word for the floats below `length`: each is put in by an exclusive or, and then the bits are stirred as the generator xorshift64 does it.
+// One word for the floats below `length`: each is put in by an exclusive or, and then the bits are stirred as the
+// generator xorshift64 does it.
 pub(crate) fn digest(floats: &[f64], length: usize) -> u64 {
     let mut sum = 0x9e37_79b9_7f4a_7c15;
     for i in 0..floats.len() {

@@ -11,9 +11,9 @@ use lib.ListN.{getD}
 use Rattle.tape.specs.Numbers.{Numbers}
 use Rattle.tape.specs.Machine.{all}
 use Rattle.tape.specs.Answers.{Answer}
-use Rattle.tape.specs.Calls.{step, run}
+use Rattle.tape.specs.Steps.{step, run}
 use Rattle.tape.specs.Passes.{Unrefused}
-use Rattle.revolutions.specs.Revolutions.{meaning, calls}
+use Rattle.revolutions.specs.Revolutions.{resolve, calls}
 use Rattle.revolutions.specs.Examples.{three, three-calls, before, swapped, first-only, in-recording-order, idle, bits, Example, Overlapping, ApartHere}
 
 -- two lists whose first numbers have other bits
@@ -28,17 +28,17 @@ none-refused (a ∷ rest) e = let both = and-eq-true-iff (eqb (a .number) 0) _ .
 pub example : Example
 unfolding step add sub mul div neg lt le ofInt ofBits toBits
 example = record {
-  plays = record { session = refl; unrefused = none-refused (run three-calls before .0) refl; roots = (omega arith, (omega arith, (omega arith, tt))) };
+  runs = record { session = refl; unrefused = none-refused (run three-calls before .0) refl; roots = (omega arith, (omega arith, (omega arith, tt))) };
   adjoints = refl;
   long = refl;
-  not-first-only = unlike _ (first-only (meaning three)) _ _ refl refl (λ e. omega arith);
-  not-in-recording-order = unlike _ (in-recording-order (meaning three)) _ _ refl refl (λ e. omega arith);
-  not-idle = unlike _ (idle (meaning three)) _ _ refl refl (λ e. omega arith);
+  not-first-only = unlike _ (first-only (resolve three)) _ _ refl refl (λ e. omega arith);
+  not-in-recording-order = unlike _ (in-recording-order (resolve three)) _ _ refl refl (λ e. omega arith);
+  not-idle = unlike _ (idle (resolve three)) _ _ refl refl (λ e. omega arith);
 }
 
 pub overlapping : Overlapping
 unfolding step add sub mul div neg lt le ofInt ofBits toBits
-overlapping = record { plays = record { session = refl; unrefused = none-refused (run (calls swapped) before .0) refl; roots = (omega arith, (omega arith, (omega arith, tt))) }; adjoints = refl; means = refl; swapped-means = refl; changed = unlike _ _ _ _ refl refl (λ e. omega arith); not-apart = λ apart. true≢false (apart 1 (omega arith)) }
+overlapping = record { runs = record { session = refl; unrefused = none-refused (run (calls swapped) before .0) refl; roots = (omega arith, (omega arith, (omega arith, tt))) }; adjoints = refl; resolves = refl; swapped-resolves = refl; changed = unlike _ _ _ _ refl refl (λ e. omega arith); not-apart = λ apart. true≢false (apart 1 (omega arith)) }
 
 pub apart-here : ApartHere
 unfolding add sub mul div neg lt le ofInt ofBits

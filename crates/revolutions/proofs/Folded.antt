@@ -1,4 +1,5 @@
--- Demand 3 on lists. Rests on the walks of `Walks`: a revolution put in behind another leaves the model the same, and one that has no edge to a node of the model leaves that node alone.
+-- Demand 3 on lists. Rests on the walks of `Walks`: a revolution put in behind another leaves the model the same, and
+-- one that has no edge to a node of the model leaves that node alone.
 use Prim.Native.Nat.{ℕ, _+_, _-_, _≤_, _<_}
 use native.Mathlib.Nat.{zero-add, le-refl}
 use native.Mathlib.Omega.{arith}

@@ -1,4 +1,5 @@
--- What an active tape holds, as lists: the values, adjoints and edges of its nodes, and how each call that is not refused changes them. By the stores of `written`, which leave what is below the length.
+-- What an active tape holds, as lists: the values, adjoints and edges of its nodes, and how each call that is not
+-- refused changes them. By the stores of `written`, which leave what is below the length.
 use Prim.Native.Nat.{ℕ, zero, suc, _+_, _-_, _≤_, _<_}
 use native.Mathlib.Nat.{zero-add}
 use native.Mathlib.Numerals.{add-one}
@@ -9,10 +10,10 @@ use mathlib.Core.List.{List, [], _∷_, _++_, map, map-append}
 use lib.ListN.{length, getD, take, drop, length-append, length-map}
 use lib.Seq.{length-take-le, take-take, take-at, drop-at, take-suc-set, getD-set-same, getD-set-other}
 use Rattle.tape.specs.Numbers.{Numbers}
-use Rattle.tape.specs.Machine.{Arrays, Machine, machine, slot}
+use Rattle.tape.specs.Machine.{Arrays, Machine, machine, slot, most-edges}
 use Rattle.tape.specs.Walk.{Edge, edges-at, indexes}
 use Rattle.tape.specs.Calls.{start, set-mark, rewind-to-mark, moved, written, with-adjoints}
-use Rattle.tape.specs.declared.state.Tape.{Tape}
+use Rattle.tape.specs.declared.tape.Tape.{Tape}
 use Rattle.tape.proofs.Ranges.{length-indexes, indexes-append}
 use Rattle.tape.proofs.Recording.{edges-stored, edges-before}
 use Rattle.tape.proofs.Steps.{Ready, last-or-below}
@@ -55,7 +56,7 @@ pub record Holds {N : Numbers} (M : Machine N) (mark : ℕ) (values adjoints : L
   pub adjoint : take (M .state .length) (M .lent .adjoint) ≡ adjoints
   pub edge : map (edges-at (M .lent)) (indexes 0 (M .state .length)) ≡ edges
   -- no node counts more than its own two slots, so that what the next one writes does not change its edges
-  pub few : (i : ℕ) → i < M .state .length → getD (M .lent .count) i 0 ≤ 2
+  pub few : (i : ℕ) → i < M .state .length → getD (M .lent .count) i 0 ≤ most-edges
 
 -- right after a start there is nothing
 pub started : {N : Numbers} (t : Tape) (A : Arrays N) → Holds (machine (moved start t) A) 0 [] [] []
@@ -63,9 +64,9 @@ started t A = record { active = refl; marked = refl; long = refl; as-long = refl
 
 -- ---- one node more
 
-module _ {N : Numbers} (M : Machine N) (v : N .Number) (es : List (Edge N)) (r : Ready M) (few : length es ≤ 2) where
+module _ {N : Numbers} (M : Machine N) (v : N .Number) (es : List (Edge N)) (r : Ready M) (few : length es ≤ most-edges) where
   -- the edges of a node that was there, and of the new one
-  edges-kept : (i : ℕ) → i < M .state .length → getD (M .lent .count) i 0 ≤ 2 → edges-at (written M v es .lent) i ≡ edges-at (M .lent) i
+  edges-kept : (i : ℕ) → i < M .state .length → getD (M .lent .count) i 0 ≤ most-edges → edges-at (written M v es .lent) i ≡ edges-at (M .lent) i
   edges-kept i h own =
       let n = M .state .length in
       let A = M .lent in
@@ -78,10 +79,10 @@ module _ {N : Numbers} (M : Machine N) (v : N .Number) (es : List (Edge N)) (r :
       rw (getD-set-same (A .count) n (length es) 0 (omega arith)) (edges-stored (A .child) (A .partial) (slot n) es (omega arith) (omega arith))
 
   -- and how many they are
-  count-kept : (i : ℕ) → i < M .state .length → getD (M .lent .count) i 0 ≤ 2 → getD (written M v es .lent .count) i 0 ≤ 2
+  count-kept : (i : ℕ) → i < M .state .length → getD (M .lent .count) i 0 ≤ most-edges → getD (written M v es .lent .count) i 0 ≤ most-edges
   count-kept i h own = rw (getD-set-other (M .lent .count) (M .state .length) i (length es) 0 (λ e. omega arith)) own
 
-  count-new : getD (written M v es .lent .count) (M .state .length) 0 ≤ 2
+  count-new : getD (written M v es .lent .count) (M .state .length) 0 ≤ most-edges
   count-new = rw (getD-set-same (M .lent .count) (M .state .length) (length es) 0 (omega arith)) few
 
   module _ {mark : ℕ} {values adjoints : List (N .Number)} {edges : List (List (Edge N))} (h : Holds M mark values adjoints edges) where
@@ -99,7 +100,7 @@ module _ {N : Numbers} (M : Machine N) (v : N .Number) (es : List (Edge N)) (r :
       value = rw (add-one, take-suc-set (M .lent .value) (M .state .length) v (r .room), h .value);
       adjoint = rw (add-one, take-suc-set (M .lent .adjoint) (M .state .length) (N .nought) (omega arith), h .adjoint);
       edge = all-edges;
-      few = last-or-below (λ i. getD (written M v es .lent .count) i 0 ≤ 2) (M .state .length) count-new (λ i l. count-kept i l (h .few i l));
+      few = last-or-below (λ i. getD (written M v es .lent .count) i 0 ≤ most-edges) (M .state .length) count-new (λ i l. count-kept i l (h .few i l));
     }
 
 -- ---- the other calls

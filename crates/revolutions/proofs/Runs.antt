@@ -4,7 +4,8 @@ use mathlib.Core.Bool.{true, true≢false}
 use mathlib.Core.List.{List, [], _∷_, _++_}
 use Rattle.tape.specs.Numbers.{Numbers}
 use Rattle.tape.specs.Machine.{Machine}
-use Rattle.tape.specs.Calls.{Call, move, operate, clear, pass, value-of, adjoint-of, is-live, list, step, run}
+use Rattle.tape.specs.Calls.{Call, move, operate, clear, pass, value-of, adjoint-of, is-live, list}
+use Rattle.tape.specs.Steps.{step, run}
 use Rattle.tape.specs.Kept.{after}
 use Rattle.tape.specs.Passes.{Unrefused}
 use Rattle.tape.proofs.Passes.{only-adjoints}

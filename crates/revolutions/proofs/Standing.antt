@@ -9,16 +9,17 @@ use borrow.Author.Tests.{eqb-false}
 use lib.ListN.{length, getD, drop, replicate, length-set, length-append, length-replicate, length-drop}
 use lib.Seq.{getD-set-same, getD-set-other, length-sets}
 use Rattle.tape.specs.Numbers.{Numbers}
-use Rattle.tape.specs.Machine.{Arrays, Machine, machine, capacity, slot}
-use Rattle.tape.specs.Handles.{Operand, plain, node, worth}
+use Rattle.tape.specs.Machine.{Arrays, Machine, machine, capacity, slot, most-nodes}
+use Rattle.tape.specs.Handles.{Operand, plain, node, operand-value}
 use Rattle.tape.specs.Operations.{Given, apply}
 use Rattle.tape.specs.Walk.{Edge, edges-at}
 use Rattle.tape.specs.Answers.{Answer}
-use Rattle.tape.specs.Calls.{Call, Pass, move, start, set-mark, rewind-to-mark, operate, clear, pass, edges, with-adjoints, written, Plan, plan, range, seeded, walked as passed-back, carried, step}
-use Rattle.tape.specs.declared.state.Tape.{Tape}
+use Rattle.tape.specs.Calls.{Call, Pass, move, start, set-mark, rewind-to-mark, operate, clear, pass, edges, with-adjoints, written, Plan, plan, range, seeded, walked as passed-back, carried}
+use Rattle.tape.specs.Steps.{step}
+use Rattle.tape.specs.declared.tape.Tape.{Tape}
 use Rattle.tape.proofs.Passes.{Accepted}
 use Rattle.tape.proofs.Recording.{SoundNodes, sound-kept}
-use Rattle.tape.proofs.Steps.{effect, last-or-below}
+use Rattle.tape.proofs.Steps.{shape, room, effect, last-or-below}
 use Rattle.tape.proofs.Tests.{by-test, Fit, fit, state-fit}
 use Rattle.revolutions.proofs.Walks.{length-walk}
 
@@ -61,7 +62,8 @@ length-cleared n x s h = simp (length-append, length-replicate, length-drop) (om
 
 -- ---- a machine in a session
 
--- On the lent arrays A: behind a model of m nodes, with serials from first on, stand j own nodes, with serials from k on.
+-- On the lent arrays A: behind a model of m nodes, with serials from first on, stand j own nodes, with serials from k
+-- on.
 -- While the model is recorded, its nodes are own nodes behind no model
 pub record Counted {N : Numbers} (A : Arrays N) (m first k j : ℕ) (L : Machine N) : Type 0 where
   pub alike : Alike A (L .lent)
@@ -87,7 +89,7 @@ onward P c L a is so = rw (a .carries) (so (rw (a .carries) at (sound-kept L (st
 -- a start leaves no node
 pub started : {N : Numbers} (M : Machine N) → Accepted (move start) M (step (move start) M) → Stands (M .lent) 0 (M .state .next) (M .state .next) 0 (step (move start) M .1)
 started M a =
-    let f = state-fit 65535 (M .state) (a .passed .shape) in
+    let f = state-fit most-nodes (M .state) (shape (a .passed)) in
     rw (a .carries) (record { counted = omega arith; active = refl; models = λ i h. absurd (omega arith); owns = λ i h. absurd (omega arith); sound = λ i h. absurd (omega arith) })
 
 module _ {N : Numbers} {A : Arrays N} {m first k j : ℕ} {L : Machine N} (s : Stands A m first k j L) where
@@ -101,7 +103,7 @@ module _ {N : Numbers} {A : Arrays N} {m first k j : ℕ} {L : Machine N} (s : S
 
   pub cleared : Accepted clear L (step clear L) → Stands A m first k j (step clear L .1)
   cleared a =
-      let f : Fit L = fit L (a .passed .shape) in
+      let f : Fit L = fit L (shape (a .passed)) in
       onward (Stands A m first k j) clear L a (s .sound) (re-adjoined _ (length-cleared (L .state .length) (N .nought) (L .lent .adjoint) (omega arith)))
 
   pub walked : (p : Pass N) → Accepted (pass p) L (step (pass p) L) → Stands A m first k j (step (pass p) L .1)
@@ -124,9 +126,9 @@ module _ {N : Numbers} {A : Arrays N} {m first k j : ℕ} {L : Machine N} (s : S
 
   pub recorded : (op : ℕ) (left right : Operand N) (g : Given N) → let c = operate op left right g in Accepted c L (step c L) → Stands A m first k (suc j) (step c L .1)
   recorded op left right g a =
-      let f : Fit L = fit L (a .passed .shape) in
-      let not-full : L .state .length ≡ capacity (L .lent) → ⊥ = eqb-false _ _ (rw (s .active) at (a .passed .room)) in
-      let row = apply op (worth L left) (worth L right) g in
+      let f : Fit L = fit L (shape (a .passed)) in
+      let not-full : L .state .length ≡ capacity (L .lent) → ⊥ = eqb-false _ _ (rw (s .active) at (room (a .passed))) in
+      let row = apply op (operand-value L left) (operand-value L right) g in
       let At : Answer N × Machine N → Type 0 = λ x. SoundNodes (x .1) → Stands A m first k (suc j) (x .1) in
       onward (Stands A m first k (suc j)) (operate op left right g) L a (s .sound)
       (by-test At (L .state .active) (λ _. grown (row .value) (edges left right row) (omega arith) (omega arith)) (λ e. absurd (true≢false (sym (s .active) ∙ e))))

@@ -1,4 +1,5 @@
--- A session, call by call: each revolution folds its part into the model's adjoints, and the last pass walks the model. Rests on `recorded`, and on the lists that each other call leaves.
+-- A session, call by call: each revolution folds its part into the model's adjoints, and the last pass walks the model.
+-- Rests on `recorded`, and on the lists that each other call leaves.
 use Prim.Native.Nat.{ℕ, suc, _+_, _-_, _≤_}
 use native.Mathlib.Nat.{sub-zero}
 use native.Mathlib.Omega.{arith}
@@ -10,27 +11,28 @@ use Rattle.tape.specs.Numbers.{Numbers}
 use Rattle.tape.specs.Machine.{Machine}
 use Rattle.tape.specs.Handles.{node}
 use Rattle.tape.specs.Walk.{Edge, walk, edges-at}
-use Rattle.tape.specs.Calls.{move, start, set-mark, rewind-to-mark, Call, clear, Pass, pass, plan, range, seeded, backward-to-mark, propagate-mark-to-start, step, run}
+use Rattle.tape.specs.Calls.{move, start, set-mark, rewind-to-mark, Call, clear, Pass, pass, plan, range, seeded, backward-to-mark, propagate-mark-to-start}
+use Rattle.tape.specs.Steps.{step, run}
 use Rattle.tape.specs.Kept.{after}
 use Rattle.tape.specs.Passes.{Unrefused}
 use Rattle.tape.specs.declared.node.Handle.{Handle}
 use Rattle.tape.proofs.Passes.{accepted}
-use Rattle.tape.proofs.Steps.{first-live}
-use Rattle.revolutions.specs.Revolutions.{Revolution, Session, recordings, turned, calls, deed, Deed, Turn, turn, Meaning, meaning, Node, nodes, AtOrPast, Plays, model-adjoints}
+use Rattle.tape.proofs.Steps.{all-live, first-live}
+use Rattle.revolutions.specs.Revolutions.{Revolution, Session, recordings, revolution-calls, calls, resolve-operation, ResolvedOperation, ResolvedRevolution, resolve-revolution, ResolvedSession, resolve, Node, nodes, AtOrPast, RunsAs, model-adjoints}
 use Rattle.revolutions.specs.Folded.{Part, seed, folded, folded-all, one-by-one}
 use Rattle.revolutions.proofs.Held.{Holds, started, mark-set, adjoints-set, rewound, whole, high-part}
 use Rattle.revolutions.proofs.Recorded.{recorded}
 use Rattle.revolutions.proofs.Runs.{after-append, unrefused-parts, Left, reads-left-out}
 use Rattle.revolutions.proofs.Walks.{length-walk, take-walk, alter-second}
 
--- a node for each deed
-pub length-nodes : {N : Numbers} (b : ℕ) (models owns : List (N .Number)) (ds : List (Deed N)) → length (nodes b models owns ds) ≡ length ds
+-- a node for each operation
+pub length-nodes : {N : Numbers} (b : ℕ) (models owns : List (N .Number)) (ds : List (ResolvedOperation N)) → length (nodes b models owns ds) ≡ length ds
 length-nodes b models owns [] = refl
 length-nodes b models owns (d ∷ ds) = ap suc (length-nodes b models _ ds)
 
--- a turn's nodes, by their edges, right behind a model of m nodes with these values
-abbrev pub part : {N : Numbers} → ℕ → List (N .Number) → Turn N → Part N
-part m models t = record { nodes = map (λ n. n .edges) (nodes m models [] (t .deeds)); root = t .root }
+-- a revolution's nodes, by their edges, right behind a model of m nodes with these values
+abbrev pub part : {N : Numbers} → ℕ → List (N .Number) → ResolvedRevolution N → Part N
+part m models t = record { nodes = map (λ n. n .edges) (nodes m models [] (t .operations)); root = t .root }
 
 -- ---- passes
 
@@ -52,7 +54,7 @@ module _ {N : Numbers} (M : Machine N) (m : ℕ) (values adjoints : List (N .Num
   to-mark low high h l held u =
       let p : Pass N = backward-to-mark (node h) in
       let n = M .state .length in
-      let alive = first-live M h [] (accepted (pass p) M u .passed .all-live) .0 in
+      let alive = first-live M h [] (all-live (accepted (pass p) M u .passed)) .0 in
       let all : n ≡ length low + length high = whole (edges-at (M .lent)) n low high (held .edge) in
       let past : map (edges-at (M .lent)) (range (plan p (M .state))) ≡ high = rw (held .marked, ← l) (high-part (edges-at (M .lent)) n low high (held .edge)) in
       let first = take-set-lt n (M .lent .adjoint) (h .index) (N .one) (alive .below) ∙ ap (λ s. set s (h .index) (N .one)) (held .adjoint) in
@@ -84,15 +86,15 @@ module _ {N : Numbers} (m : ℕ) (models : List (N .Number)) (edges : List (List
       rw (accepted (move rewind-to-mark) L w .carries, e) (rewound L m models owns (walk m (p .nodes) (s ++ seed p)) edges (p .nodes) v l back)
 
   -- revolution by revolution
-  all-turned : (rs : List (Revolution N)) (M : Machine N) (s : List (N .Number)) → Holds M m models s edges → AtOrPast m rs → Unrefused (run (turned rs) M .0)
-      → Holds (after (turned rs) M) m models (folded-all (map (part m models) (map (turn m) rs)) s) edges
+  all-turned : (rs : List (Revolution N)) (M : Machine N) (s : List (N .Number)) → Holds M m models s edges → AtOrPast m rs → Unrefused (run (revolution-calls rs) M .0)
+      → Holds (after (revolution-calls rs) M) m models (folded-all (map (part m models) (map (resolve-revolution m) rs)) s) edges
   all-turned [] M s held past u = held
   all-turned (r ∷ rs) M s held (past, later) u =
       let os = r .operations in
       let root = pass (backward-to-mark (node (r .root))) in
-      let p = part m models (turn m r) in
+      let p = part m models (resolve-revolution m r) in
       let L = after (recordings os) M in
-      let (records, (passes, (rewinds, rest))) = unrefused-parts (recordings os) (root ∷ move rewind-to-mark ∷ turned rs) M u in
+      let (records, (passes, (rewinds, rest))) = unrefused-parts (recordings os) (root ∷ move rewind-to-mark ∷ revolution-calls rs) M u in
       let behind = recorded m m models v os M [] s edges (rw append-nil held) records in
       let e : length s ≡ m = held .as-long ∙ sym (held .long) ∙ v in
       let k : length os ≡ length (p .nodes) = rw (length-map, length-nodes, length-map) in
@@ -102,11 +104,11 @@ module _ {N : Numbers} (m : ℕ) (models : List (N .Number)) (edges : List (List
 -- ---- a session
 
 -- the model's adjoints, revolution by revolution
-abbrev pub summed : {N : Numbers} → Meaning N → List (N .Number)
-summed meant =
-    let first = nodes 0 [] [] (meant .model) in
+abbrev pub summed : {N : Numbers} → ResolvedSession N → List (N .Number)
+summed resolved =
+    let first = nodes 0 [] [] (resolved .model) in
     let values = map (λ n. n .value) first in
-    one-by-one (map (λ n. n .edges) first) (map (part (length values) values) (meant .turns))
+    one-by-one (map (λ n. n .edges) first) (map (part (length values) values) (resolved .revolutions))
 
 -- after clearing, every adjoint of the tape is zero
 wiped : {N : Numbers} (M : Machine N) (mark : ℕ) (values adjoints : List (N .Number)) (edges : List (List (Edge N))) → Holds M mark values adjoints edges → step clear M .0 .number ≡ 0
@@ -121,7 +123,7 @@ wiped {N} M mark values adjoints edges held u =
 -- the model as it stands before the first revolution
 module _ {N : Numbers} (s : Session N) where
   abbrev first : List (Node N)
-  first = nodes 0 [] [] (map (deed 0) (s .model))
+  first = nodes 0 [] [] (map (resolve-operation 0) (s .model))
 
   abbrev models : List (N .Number)
   models = map (λ n. n .value) first
@@ -134,13 +136,13 @@ module _ {N : Numbers} (s : Session N) where
 
   -- a node for each operation
   pub as-many : length first ≡ m
-  as-many = length-nodes 0 [] [] (map (deed 0) (s .model)) ∙ length-map (s .model) (deed 0)
+  as-many = length-nodes 0 [] [] (map (resolve-operation 0) (s .model)) ∙ length-map (s .model) (resolve-operation 0)
 
   -- start, model, mark, clearing, revolutions and the last pass, one after the other
-  played : (M : Machine N) → AtOrPast m (s .revolutions) → Unrefused (run (calls s) M .0) → take m (after (calls s) M .lent .adjoint) ≡ summed (meaning s)
+  played : (M : Machine N) → AtOrPast m (s .revolutions) → Unrefused (run (calls s) M .0) → take m (after (calls s) M .lent .adjoint) ≡ summed (resolve s)
   played M past (starts, u) =
       let os = recordings (s .model) in
-      let rs = turned (s .revolutions) in
+      let rs = revolution-calls (s .revolutions) in
       let last = pass propagate-mark-to-start ∷ [] in
       let M₀ = step (move start) M .1 in
       let M₁ = after os M₀ in
@@ -162,7 +164,7 @@ module _ {N : Numbers} (s : Session N) where
       rw (end, nodes, values) (rw size at (h₅ .adjoint))
 
 -- with reads and listings between
-pub by-turns : {N : Numbers} (s : Session N) (cs : List (Call N)) (M : Machine N) → Plays s cs M → model-adjoints s cs M ≡ summed (meaning s)
+pub by-turns : {N : Numbers} (s : Session N) (cs : List (Call N)) (M : Machine N) → RunsAs s cs M → model-adjoints s cs M ≡ summed (resolve s)
 by-turns s cs M p =
     let left : Left (calls s) M (after cs M) = rw (p .session) at (reads-left-out cs M (p .unrefused)) in
     rw (← left .machine) (played s M (p .roots) (left .unrefused))

@@ -1,4 +1,5 @@
--- Walks over lists: what they keep, and walks beside one another. Each is told of one edge first, and then by induction on the edges and on the nodes.
+-- Walks over lists: what they keep, and walks beside one another. Each is shown of one edge first, and then by induction
+-- on the edges and on the nodes.
 use Prim.Native.Nat.{ℕ, zero, suc, _+_, _-_, _≤_, _<_}
 use native.Mathlib.Nat.{zero-add, suc-add, le-refl}
 use native.Mathlib.Decide.{decLt}
@@ -12,7 +13,7 @@ use lib.ListN.{length, getD, set, take, drop, length-take, length-set, List·get
 use lib.Seq.{length-take-le, set-out, getD-set-other, take-set-le, take-set-lt, drop-set-lt, drop-set-add, set-append-left, getD-take, getD-drop, getD-append-add}
 use Rattle.tape.specs.Numbers.{Numbers}
 use Rattle.tape.specs.Walk.{Edge, push, walk}
-use Rattle.tape.proofs.Steps.{or-false}
+use Rattle.tape.proofs.Tests.{or-false}
 use Rattle.revolutions.specs.Trading.{to, goes}
 use Rattle.revolutions.specs.Folded.{up}
 

@@ -1,5 +1,7 @@
--- What demand 3 says of one session of three revolutions, in bits, and what would not meet it. Proved in proofs/Examples.antt, by computation.
--- The revolutions pass 3, 2^53 and -2^53 back to one node of the model, so that the order of the three sums shows: (0 + 3) + 2^53 is 2^53 + 4 in floats, and less 2^53 it is 4.
+-- What demand 3 says of one session of three revolutions, in bits, and what would not meet it. Proved in
+-- proofs/Examples.antt, by computation.
+-- The revolutions pass 3, 2^53 and -2^53 back to one node of the model, so that the order of the three sums shows: (0 +
+-- 3) + 2^53 is 2^53 + 4 in floats, and less 2^53 it is 4.
 use Prim.Native.Nat.{ℕ, _+_, _^_}
 use mathlib.Core.Path.{_≡_}
 use mathlib.Core.List.{List, [], _∷_, _++_, map, reverse}
@@ -7,17 +9,19 @@ use lib.Ieee.{Float, binary64, toBits, neg}
 use lib.ListN.{take, drop, replicate}
 use Rattle.tape.specs.Numbers.{floats}
 use Rattle.tape.specs.Machine.{Machine}
+use Rattle.tape.specs.Operations.{LEAF, ADD, MULTIPLY, SUPPLIED-ONE}
 use Rattle.tape.specs.Handles.{Operand, plain, node}
 use Rattle.tape.specs.Calls.{Call, adjoint-of, value-of, list}
 use Rattle.tape.specs.Kept.{fresh}
 use Rattle.tape.specs.Rows.{float, sevens, handle, given, node-at}
-use Rattle.revolutions.specs.Revolutions.{Operation, Revolution, Session, Turn, Meaning, turn, meaning, calls, long-tape, Plays, model-adjoints}
+use Rattle.revolutions.specs.Revolutions.{Operation, Revolution, Session, ResolvedRevolution, ResolvedSession, resolve-revolution, resolve, calls, long-tape, RunsAs, model-adjoints}
 use Rattle.revolutions.specs.Trading.{Apart, with-both}
 
 -- ---- the session
 
 abbrev pub operation : ℕ → Operand floats → Operand floats → Operation floats
-operation op left right = record { operation = op; left = left; right = right; supplied = given (float 0) (float 0) (float 0) }
+operation op left right =
+    record { operation = op; left = left; right = right; supplied = given (float 0) (float 0) (float 0) }
 
 -- where an operation does not use its right operand: a handle that is not live
 abbrev pub unused : Operand floats
@@ -25,32 +29,35 @@ unused = node (handle 9 9)
 
 -- x = 3, and x * x
 abbrev pub model : List (Operation floats)
-model = operation 0 (plain (float 3)) unused ∷ operation 3 (node-at 0) (node-at 0) ∷ []
+model = operation LEAF (plain (float 3)) unused ∷ operation MULTIPLY (node-at 0) (node-at 0) ∷ []
 
--- On node i of the model: its value put on the tape again; a value of 5 with supplied partial w; that plus 1, which is the root; and past the root its product with the first. The serials of the four nodes begin at k
+-- On node i of the model: its value put on the tape again; a value of 5 with supplied partial w; that plus 1, which is
+-- the root; and past the root its product with the first. The serials of the four nodes begin at k
 abbrev pub revolution : ℕ → Float → ℕ → Revolution floats
 revolution i w k = record {
-  operations = operation 0 (node-at i) unused
-      ∷ record { operation = 8; left = node-at i; right = unused; supplied = given (float 5) w w }
-      ∷ operation 1 (node (handle 3 (k + 1))) (plain (float 1))
-      ∷ operation 3 (node (handle 4 (k + 2))) (node (handle 2 k))
+  operations = operation LEAF (node-at i) unused
+      ∷ record { operation = SUPPLIED-ONE; left = node-at i; right = unused; supplied = given (float 5) w w }
+      ∷ operation ADD (node (handle 3 (k + 1))) (plain (float 1))
+      ∷ operation MULTIPLY (node (handle 4 (k + 2))) (node (handle 2 k))
       ∷ [];
   root = handle 4 (k + 2);
 }
 
--- what it means, whatever the serials
-abbrev pub back : ℕ → Float → Turn floats
-back i w = turn 2 (revolution i w 0)
+-- what it resolves to, whatever the serials
+abbrev pub back : ℕ → Float → ResolvedRevolution floats
+back i w = resolve-revolution 2 (revolution i w 0)
 
 abbrev pub high : Float
 high = float (2 ^ 53)
 
 abbrev pub three : Session floats
-three = record { model = model; revolutions = revolution 1 (float 3) 3 ∷ revolution 1 high 7 ∷ revolution 1 (neg high) 11 ∷ [] }
+three =
+    record { model = model; revolutions = revolution 1 (float 3) 3 ∷ revolution 1 high 7 ∷ revolution 1 (neg high) 11 ∷ [] }
 
 -- with reads between: x * x's adjoint after the first revolution, and at the end its value and a listing
 abbrev pub three-calls : List (Call floats)
-three-calls = take 11 (calls three) ++ (adjoint-of (node-at 1) ∷ drop 11 (calls three)) ++ (value-of (node-at 1) ∷ list 1000 ∷ [])
+three-calls =
+    take 11 (calls three) ++ (adjoint-of (node-at 1) ∷ drop 11 (calls three)) ++ (value-of (node-at 1) ∷ list 1000 ∷ [])
 
 -- six nodes' room, all sevens
 abbrev pub before : Machine floats
@@ -58,20 +65,22 @@ before = fresh (sevens 6)
 
 -- the last two revolutions in the other order
 abbrev pub swapped : Session floats
-swapped = record { model = model; revolutions = revolution 1 (float 3) 3 ∷ revolution 1 (neg high) 7 ∷ revolution 1 high 11 ∷ [] }
+swapped =
+    record { model = model; revolutions = revolution 1 (float 3) 3 ∷ revolution 1 (neg high) 7 ∷ revolution 1 high 11 ∷ [] }
 
 -- ---- rules that are not the long tape's
 
-abbrev pub first-only : Meaning floats → List Float
-first-only meant = long-tape (record { model = meant .model; turns = take 1 (meant .turns) })
+abbrev pub first-only : ResolvedSession floats → List Float
+first-only resolved = long-tape (record { model = resolved .model; revolutions = take 1 (resolved .revolutions) })
 
 -- the revolutions in the order in which they were recorded
-abbrev pub in-recording-order : Meaning floats → List Float
-in-recording-order meant = long-tape (record { model = meant .model; turns = reverse (meant .turns) })
+abbrev pub in-recording-order : ResolvedSession floats → List Float
+in-recording-order resolved =
+    long-tape (record { model = resolved .model; revolutions = reverse (resolved .revolutions) })
 
 -- adjoints that no walk changes
-abbrev pub idle : Meaning floats → List Float
-idle meant = replicate 2 (float 0)
+abbrev pub idle : ResolvedSession floats → List Float
+idle resolved = replicate 2 (float 0)
 
 -- ---- what is proved
 
@@ -79,14 +88,14 @@ abbrev pub bits : List Float → List ℕ
 bits = map (toBits binary64)
 
 -- the session's model adjoints are what a rule gives
-abbrev pub Meets : (Meaning floats → List Float) → Type 0
-Meets rule = model-adjoints three three-calls before ≡ rule (meaning three)
+abbrev pub Meets : (ResolvedSession floats → List Float) → Type 0
+Meets rule = model-adjoints three three-calls before ≡ rule (resolve three)
 
 -- the adjoint of x is 24 and that of x * x is 4, by the calls and by the long tape
 pub record Example : Type 0 where
-  pub plays : Plays three three-calls before
+  pub runs : RunsAs three three-calls before
   pub adjoints : bits (model-adjoints three three-calls before) ≡ 0x4038_0000_0000_0000 ∷ 0x4010_0000_0000_0000 ∷ []
-  pub long : bits (long-tape (meaning three)) ≡ 0x4038_0000_0000_0000 ∷ 0x4010_0000_0000_0000 ∷ []
+  pub long : bits (long-tape (resolve three)) ≡ 0x4038_0000_0000_0000 ∷ 0x4010_0000_0000_0000 ∷ []
   -- these rules are not met
   pub not-first-only : Meets first-only → ⊥
   pub not-in-recording-order : Meets in-recording-order → ⊥
@@ -94,13 +103,14 @@ pub record Example : Type 0 where
 
 -- The last two share a node of the model, and where they trade places the adjoints are 18 and 3: `Apart` is needed
 pub record Overlapping : Type 0 where
-  pub plays : Plays swapped (calls swapped) before
-  pub adjoints : bits (model-adjoints swapped (calls swapped) before) ≡ 0x4032_0000_0000_0000 ∷ 0x4008_0000_0000_0000 ∷ []
-  pub means : meaning three ≡ with-both (meaning three .model) (back 1 (float 3) ∷ []) (back 1 high) (back 1 (neg high)) []
-  pub swapped-means : meaning swapped ≡ with-both (meaning three .model) (back 1 (float 3) ∷ []) (back 1 (neg high)) (back 1 high) []
+  pub runs : RunsAs swapped (calls swapped) before
+  pub adjoints : bits (model-adjoints swapped (calls swapped) before) ≡ 0x4032_0000_0000_0000 ∷ 0x4008_0000_0000_0000
+      ∷ []
+  pub resolves : resolve three ≡ with-both (resolve three .model) (back 1 (float 3) ∷ []) (back 1 high) (back 1 (neg high)) []
+  pub swapped-resolves : resolve swapped ≡ with-both (resolve three .model) (back 1 (float 3) ∷ []) (back 1 (neg high)) (back 1 high) []
   pub changed : model-adjoints three three-calls before ≡ model-adjoints swapped (calls swapped) before → ⊥
-  pub not-apart : Apart (meaning three .model) (back 1 high) (back 1 (neg high)) → ⊥
+  pub not-apart : Apart (resolve three .model) (back 1 high) (back 1 (neg high)) → ⊥
 
 -- one that passes back to x and one that passes back to x * x share none
 abbrev pub ApartHere : Type 0
-ApartHere = Apart (meaning three .model) (back 0 (float 3)) (back 1 high)
+ApartHere = Apart (resolve three .model) (back 0 (float 3)) (back 1 high)

@@ -1,4 +1,5 @@
--- Demand 3 on lists alone, with no calls and no arrays: nodes are given by their edges, and gradients are passed back by the walk. Over any numbers; no law of them is assumed.
+-- Demand 3 on lists alone, with no calls and no arrays: nodes are given by their edges, and gradients are passed back
+-- by the walk. Over any numbers; no law of them is assumed.
 use Prim.Native.Nat.{ℕ, _+_, _<_}
 use mathlib.Core.Path.{_≡_}
 use mathlib.Core.Bool.{false, _&&_, cond}
@@ -36,7 +37,8 @@ one-by-one {N} model ps = walk 0 model (folded-all ps (replicate (length model) 
 
 -- k places up: the edges to the model's m nodes stay
 abbrev pub up : {N : Numbers} → ℕ → ℕ → List (List (Edge N)) → List (List (Edge N))
-up m k nodes = map (map (λ e. record { child = cond (ltb (e .child) m) (e .child) (e .child + k); weight = e .weight })) nodes
+up m k nodes =
+    map (map (λ e. record { child = cond (ltb (e .child) m) (e .child) (e .child + k); weight = e .weight })) nodes
 
 -- last to first, each moved to its place
 abbrev pub placed : {N : Numbers} → ℕ → List (Part N) → List (List (Edge N))
@@ -49,7 +51,8 @@ all-seeds (p ∷ ps) = all-seeds ps ++ seed p
 
 -- walked once, from the end to 0: the model's part
 abbrev pub at-once : {N : Numbers} → List (List (Edge N)) → List (Part N) → List (N .Number)
-at-once {N} model ps = let m = length model in take m (walk 0 (model ++ placed m ps) (replicate m (N .nought) ++ all-seeds ps))
+at-once {N} model ps =
+    let m = length model in take m (walk 0 (model ++ placed m ps) (replicate m (N .nought) ++ all-seeds ps))
 
 -- ---- what is proved
 

@@ -1,4 +1,5 @@
--- The sum over revolutions, demand 3. Read downwards: a session of calls, what its calls mean, the one long tape that they mean, and what is proved. Over any numbers; no law of them is assumed.
+-- The sum over revolutions, demand 3. Read downwards: a session of calls, what it resolves to, the one long tape that
+-- is built from that, and what is proved. Over any numbers; no law of them is assumed.
 use Prim.Native.Nat.{ℕ, _+_, _-_, _≤_}
 use mathlib.Core.Path.{_≡_}
 use mathlib.Core.Bool.{Bool, true, false, cond}
@@ -11,7 +12,8 @@ use Rattle.tape.specs.Machine.{Machine}
 use Rattle.tape.specs.Handles.{Operand, plain, node}
 use Rattle.tape.specs.Operations.{Given, apply, one-sided}
 use Rattle.tape.specs.Walk.{Edge, walk}
-use Rattle.tape.specs.Calls.{Call, move, start, set-mark, rewind-to-mark, operate, clear, pass, backward-to-mark, propagate-mark-to-start, value-of, adjoint-of, is-live, list, run}
+use Rattle.tape.specs.Calls.{Call, move, start, set-mark, rewind-to-mark, operate, clear, pass, backward-to-mark, propagate-mark-to-start, value-of, adjoint-of, is-live, list}
+use Rattle.tape.specs.Steps.{run}
 use Rattle.tape.specs.Kept.{after}
 use Rattle.tape.specs.Passes.{Unrefused}
 use Rattle.tape.specs.declared.node.Handle.{Handle}
@@ -37,13 +39,17 @@ abbrev pub recordings : {N : Numbers} → List (Operation N) → List (Call N)
 recordings os = map (λ o. operate (o .operation) (o .left) (o .right) (o .supplied)) os
 
 -- each revolution: record it, pass its gradients back to the mark, rewind
-abbrev pub turned : {N : Numbers} → List (Revolution N) → List (Call N)
-turned [] = []
-turned (r ∷ rs) = recordings (r .operations) ++ (pass (backward-to-mark (node (r .root))) ∷ move rewind-to-mark ∷ turned rs)
+abbrev pub revolution-calls : {N : Numbers} → List (Revolution N) → List (Call N)
+revolution-calls [] = []
+revolution-calls (r ∷ rs) =
+    recordings (r .operations) ++ (pass (backward-to-mark (node (r .root))) ∷ move rewind-to-mark ∷ revolution-calls rs)
 
 -- start, record the model, set the mark, clear; the revolutions; at last the walk from the mark to the start
 abbrev pub calls : {N : Numbers} → Session N → List (Call N)
-calls s = move start ∷ recordings (s .model) ++ (move set-mark ∷ clear ∷ turned (s .revolutions) ++ (pass propagate-mark-to-start ∷ []))
+calls s =
+    move start
+    ∷ recordings (s .model)
+    ++ (move set-mark ∷ clear ∷ revolution-calls (s .revolutions) ++ (pass propagate-mark-to-start ∷ []))
 
 -- reads and listings, which may stand anywhere between
 abbrev pub reads : {N : Numbers} → Call N → Bool
@@ -60,48 +66,50 @@ abbrev pub without-reads : {N : Numbers} → List (Call N) → List (Call N)
 without-reads [] = []
 without-reads (c ∷ cs) = cond (reads c) (without-reads cs) (c ∷ without-reads cs)
 
--- ---- what its calls mean
+-- ---- what it resolves to
 
 -- an operand stands for a node of the model, for a node of its own revolution, or for a number
-pub data Meant (N : Numbers) : Type 0 where
-  in-model own : ℕ → Meant N
-  number : N .Number → Meant N
+pub data ResolvedOperand (N : Numbers) : Type 0 where
+  in-model own : ℕ → ResolvedOperand N
+  number : N .Number → ResolvedOperand N
 
--- behind a model of m nodes. A handle's index tells which node: if the handle is not live, the call is refused
-abbrev pub meant : {N : Numbers} → ℕ → Operand N → Meant N
-meant m (plain x) = number x
-meant m (node h) = cond (ltb (h .index) m) (in-model (h .index)) (own (h .index - m))
+-- what an operand stands for, behind a model of m nodes. A handle's index says which node: if the handle is not live,
+-- the call is refused
+abbrev pub resolve-operand : {N : Numbers} → ℕ → Operand N → ResolvedOperand N
+resolve-operand m (plain x) = number x
+resolve-operand m (node h) = cond (ltb (h .index) m) (in-model (h .index)) (own (h .index - m))
 
--- an operation with its operands so resolved; one that it does not use means nothing, and a zero stands there
-pub record Deed (N : Numbers) : Type 0 where
+-- an operation with its operands so resolved; one that it does not use resolves to nothing, and a zero stands there
+pub record ResolvedOperation (N : Numbers) : Type 0 where
   pub operation : ℕ
-  pub left : Meant N
-  pub right : Meant N
+  pub left : ResolvedOperand N
+  pub right : ResolvedOperand N
   pub supplied : Given N
 
-abbrev pub deed : {N : Numbers} → ℕ → Operation N → Deed N
-deed {N} m o = record {
+abbrev pub resolve-operation : {N : Numbers} → ℕ → Operation N → ResolvedOperation N
+resolve-operation {N} m o = record {
   operation = o .operation;
-  left = meant m (o .left);
-  right = cond (one-sided (o .operation)) (number (N .nought)) (meant m (o .right));
+  left = resolve-operand m (o .left);
+  right = cond (one-sided (o .operation)) (number (N .nought)) (resolve-operand m (o .right));
   supplied = o .supplied;
 }
 
--- a revolution: its deeds, and which of its own nodes is the root
-pub record Turn (N : Numbers) : Type 0 where
-  pub deeds : List (Deed N)
+-- a revolution: its operations, and which of its own nodes is the root
+pub record ResolvedRevolution (N : Numbers) : Type 0 where
+  pub operations : List (ResolvedOperation N)
   pub root : ℕ
 
-abbrev pub turn : {N : Numbers} → ℕ → Revolution N → Turn N
-turn m r = record { deeds = map (deed m) (r .operations); root = r .root .index - m }
+abbrev pub resolve-revolution : {N : Numbers} → ℕ → Revolution N → ResolvedRevolution N
+resolve-revolution m r = record { operations = map (resolve-operation m) (r .operations); root = r .root .index - m }
 
-pub record Meaning (N : Numbers) : Type 0 where
-  pub model : List (Deed N)
-  pub turns : List (Turn N)
+pub record ResolvedSession (N : Numbers) : Type 0 where
+  pub model : List (ResolvedOperation N)
+  pub revolutions : List (ResolvedRevolution N)
 
 -- the nodes of the model are its own: no model stands before it
-abbrev pub meaning : {N : Numbers} → Session N → Meaning N
-meaning s = record { model = map (deed 0) (s .model); turns = map (turn (length (s .model))) (s .revolutions) }
+abbrev pub resolve : {N : Numbers} → Session N → ResolvedSession N
+resolve s =
+    record { model = map (resolve-operation 0) (s .model); revolutions = map (resolve-revolution (length (s .model))) (s .revolutions) }
 
 -- ---- the long tape: nothing in it is read off a machine
 
@@ -110,42 +118,44 @@ pub record Node (N : Numbers) : Type 0 where
   pub edges : List (Edge N)
 
 -- the value of an operand, given those of the model's nodes and those of the own nodes so far
-abbrev pub worth : {N : Numbers} → List (N .Number) → List (N .Number) → Meant N → N .Number
-worth {N} models owns (in-model i) = getD models i (N .blank)
-worth {N} models owns (own j) = getD owns j (N .blank)
-worth models owns (number x) = x
+abbrev pub operand-value : {N : Numbers} → List (N .Number) → List (N .Number) → ResolvedOperand N → N .Number
+operand-value {N} models owns (in-model i) = getD models i (N .blank)
+operand-value {N} models owns (own j) = getD owns j (N .blank)
+operand-value models owns (number x) = x
 
 -- its edge, if there is a partial for it, where the own nodes stand at b, b + 1 and so on
-abbrev pub edge : {N : Numbers} → ℕ → Meant N → Option (N .Number) → List (Edge N)
+abbrev pub edge : {N : Numbers} → ℕ → ResolvedOperand N → Option (N .Number) → List (Edge N)
 edge b m none = []
 edge b (in-model i) (some p) = record { child = i; weight = p } ∷ []
 edge b (own j) (some p) = record { child = b + j; weight = p } ∷ []
 edge b (number x) (some p) = []
 
--- the nodes that deeds make by the operations table, standing at b, b + 1 and so on
-abbrev pub nodes : {N : Numbers} → ℕ → List (N .Number) → List (N .Number) → List (Deed N) → List (Node N)
+-- the nodes that operations make by the operations table, standing at b, b + 1 and so on
+abbrev pub nodes : {N : Numbers} → ℕ → List (N .Number) → List (N .Number) → List (ResolvedOperation N) → List (Node N)
 nodes b models owns [] = []
 nodes b models owns (d ∷ ds) =
-    let s = apply (d .operation) (worth models owns (d .left)) (worth models owns (d .right)) (d .supplied) in
+    let s =
+    apply (d .operation) (operand-value models owns (d .left)) (operand-value models owns (d .right)) (d .supplied) in
     record { value = s .value; edges = edge b (d .left) (s .left) ++ edge b (d .right) (s .right) } ∷ nodes b models (owns ++ (s .value ∷ [])) ds
 
 -- behind a model of these values: the revolutions, last to first
-abbrev pub behind : {N : Numbers} → List (N .Number) → List (Turn N) → List (Node N)
+abbrev pub behind : {N : Numbers} → List (N .Number) → List (ResolvedRevolution N) → List (Node N)
 behind models [] = []
-behind models (t ∷ ts) = let later = behind models ts in later ++ nodes (length models + length later) models [] (t .deeds)
+behind models (t ∷ ts) =
+    let later = behind models ts in later ++ nodes (length models + length later) models [] (t .operations)
 
 -- their adjoints: all roots one, everything else zero
-abbrev pub seeds : {N : Numbers} → List (Turn N) → List (N .Number)
+abbrev pub seeds : {N : Numbers} → List (ResolvedRevolution N) → List (N .Number)
 seeds [] = []
-seeds {N} (t ∷ ts) = seeds ts ++ set (replicate (length (t .deeds)) (N .nought)) (t .root) (N .one)
+seeds {N} (t ∷ ts) = seeds ts ++ set (replicate (length (t .operations)) (N .nought)) (t .root) (N .one)
 
 -- the model, then the revolutions, walked once from the end to 0: what the model's adjoints are then
-abbrev pub long-tape : {N : Numbers} → Meaning N → List (N .Number)
-long-tape {N} sense =
-    let first = nodes 0 [] [] (sense .model) in
+abbrev pub long-tape : {N : Numbers} → ResolvedSession N → List (N .Number)
+long-tape {N} resolved =
+    let first = nodes 0 [] [] (resolved .model) in
     let m = length first in
-    let all = first ++ behind (map (λ n. n .value) first) (sense .turns) in
-    take m (walk 0 (map (λ n. n .edges) all) (replicate m (N .nought) ++ seeds (sense .turns)))
+    let all = first ++ behind (map (λ n. n .value) first) (resolved .revolutions) in
+    take m (walk 0 (map (λ n. n .edges) all) (replicate m (N .nought) ++ seeds (resolved .revolutions)))
 
 -- ---- what is proved
 
@@ -153,9 +163,10 @@ abbrev pub AtOrPast : {N : Numbers} → ℕ → List (Revolution N) → Type 0
 AtOrPast mark [] = Unit {0}
 AtOrPast mark (r ∷ rs) = (mark ≤ r .root .index) × AtOrPast mark rs
 
--- These calls are the session's, but for reads and listings; on this machine none is refused; each root stands at or past the mark.
+-- These calls are the session's, but for reads and listings; on this machine none is refused; each root stands at or
+-- past the mark.
 -- Nothing else is asked: not of shapes, room or where children stand
-pub record Plays {N : Numbers} (s : Session N) (cs : List (Call N)) (M : Machine N) : Type 0 where
+pub record RunsAs {N : Numbers} (s : Session N) (cs : List (Call N)) (M : Machine N) : Type 0 where
   pub session : without-reads cs ≡ calls s
   pub unrefused : Unrefused (run cs M .0)
   pub roots : AtOrPast (length (s .model)) (s .revolutions)
@@ -164,6 +175,8 @@ pub record Plays {N : Numbers} (s : Session N) (cs : List (Call N)) (M : Machine
 abbrev pub model-adjoints : {N : Numbers} → Session N → List (Call N) → Machine N → List (N .Number)
 model-adjoints s cs M = take (length (s .model)) (after cs M .lent .adjoint)
 
--- On any machine, with any lent arrays of any capacity: every model adjoint is that of the long tape, bit for bit. Proved in proofs/Sum.antt
+-- On any machine, with any lent arrays of any capacity: every model adjoint is that of the long tape, bit for bit.
+-- Proved in proofs/Sum.antt
 pub record Demand3 : Type 1 where
-  pub sum-over-revolutions : {N : Numbers} (s : Session N) (cs : List (Call N)) (M : Machine N) → Plays s cs M → model-adjoints s cs M ≡ long-tape (meaning s)
+  pub sum-over-revolutions : {N : Numbers} (s : Session N) (cs : List (Call N)) (M : Machine N) → RunsAs s cs M
+      → model-adjoints s cs M ≡ long-tape (resolve s)

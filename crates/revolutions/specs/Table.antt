@@ -1,4 +1,5 @@
--- The proved table: P1 to P12 of document 01, in one list. A row is what is called on what, and what must be seen; the rows on the tape stand in crates/tape/specs/Rows.antt, those of forward numbers in crates/forward/specs/Rows.antt.
+-- The proved table: P1 to P12 of document 01, in one list. A row is what is called on what, and what must be seen; the
+-- rows on the tape stand in crates/tape/specs/Rows.antt, those of forward numbers in crates/forward/specs/Rows.antt.
 use mathlib.Core.List.{List, [], _∷_}
 use Rattle.tape.specs.Rows as tape
 use Rattle.forward.specs.Rows as forward

@@ -1,12 +1,13 @@
-// Records, walks and rewinds a full tape as often as it is told. A line of standard input names a plan of operands and a number of rounds, as `near 100`, and a line of output says what
-// they came to. There is no clock here: bench/run measures from outside, this program and the Rust alike (docs/SPEED.md).
-mod orders;
+// Records, walks and rewinds a full tape as often as it is told. A line of standard input names a plan of operands and
+// a number of rounds, as `near 100`, and a line of output says what they came to. There is no clock here: bench/run
+// measures from outside, this program and the Rust alike (docs/SPEED.md).
 mod plan;
 mod report;
+mod requests;
 mod rounds;
 
-use orders::Order;
 use plan::NODES;
+use requests::Request;
 
 const SLOTS: usize = 2 * NODES;
 
@@ -17,26 +18,26 @@ fn main() {
 }
 
 fn each_line(text: &[u8]) {
-    let mut order = orders::NONE;
+    let mut request = requests::NONE;
     for i in 0..text.len() {
         if text[i] == b'\n' {
-            run(order);
-            order = orders::NONE;
+            run(request);
+            request = requests::NONE;
         } else {
-            order = order.with(text[i]);
+            request = request.with(text[i]);
         }
     }
 }
 
-fn run(order: Order) {
+fn run(request: Request) {
     let mut word = [0u64; NODES];
     let mut plain = [0.0; NODES];
-    let reach = order.reach;
+    let reach = request.reach;
     plan::lay_out(reach, &mut word, &mut plain);
-    repeat(order, &word, &plain);
+    repeat(request, &word, &plain);
 }
 
-fn repeat(order: Order, word: &[u64; NODES], plain: &[f64; NODES]) {
+fn repeat(request: Request, word: &[u64; NODES], plain: &[f64; NODES]) {
     let mut value = [0.0; NODES];
     let mut adjoint = [0.0; NODES];
     let mut serial = [0u64; NODES];
@@ -45,7 +46,7 @@ fn repeat(order: Order, word: &[u64; NODES], plain: &[f64; NODES]) {
     let mut partial = [0.0; SLOTS];
     let mut serials = [0u64; NODES];
     let edges = rounds::repeat(
-        order.times,
+        request.times,
         &mut value,
         &mut adjoint,
         &mut serial,
@@ -56,5 +57,5 @@ fn repeat(order: Order, word: &[u64; NODES], plain: &[f64; NODES]) {
         plain,
         &mut serials,
     );
-    report::rounds(order, edges, &value, &adjoint);
+    report::rounds(request, edges, &value, &adjoint);
 }

@@ -1,8 +1,18 @@
-// What is recorded: operations 1 to 7 mixed, in blocks of 16 nodes behind 15 leaves. A block's last node adds what the block came to to the sum of those before it, so that the last adjoint
-// reaches every block. No operation makes a large number or a small one, and a block is short, so that nothing overflows on the way down.
+// What is recorded: operations 1 to 7 mixed, in blocks of 16 nodes behind 15 leaves. A block's last node adds its
+// result to the sum of the blocks before it, so that the last adjoint reaches every block. No operation makes a large
+// number or a small one, and a block is short, so that nothing overflows on the way down.
+use expr::ADD;
+use expr::DIVIDE;
+use expr::LEAF;
+use expr::MAX;
+use expr::MIN;
+use expr::MULTIPLY;
+use expr::NEGATE;
+use expr::SUBTRACT;
 ghost use Prim.Native.Nat.{_≤_, _<_};
+ghost use Rattle.tape.specs.Machine.{most-nodes};
 
-pub const NODES: usize = 65_535;
+pub const NODES: usize = tape::MOST_NODES;
 
 const BLOCK: usize = 16;
 
@@ -16,14 +26,6 @@ pub const SEED: u64 = 0x9e37_79b9_7f4a_7c15;
 
 // Below 2^16 this gives the same number in each of the four parts of a draw.
 const IN_EACH_PART: u64 = 0x0001_0001_0001_0001;
-
-const LEAF: u8 = 0;
-
-const ADD: u8 = 1;
-
-const MAX: u8 = 5;
-
-const NEGATE: u8 = 7;
 
 // Where operands lie: anywhere in the node's own block, anywhere below the node, or next before it.
 pub enum Reach {
@@ -42,15 +44,15 @@ pub struct Recording {
 
 // Plans every node: a word for its operation and the places of its operands, and its plain number.
 pub(crate) fn lay_out(reach: Reach, word: &mut [u64; NODES], plain: &mut [f64; NODES]) {
-    let mut worth = [0.0; NODES];
+    let mut values = [0.0; NODES];
     let mut draw = SEED;
     for i in 0..NODES {
         draw = next(draw);
         let drawn = planned(reach, i, draw);
-        let l = worth_at(&worth, drawn.left, drawn.plain);
-        let r = worth_at(&worth, drawn.right, drawn.plain);
-        let node = settled(drawn, i, l, r);
-        worth[i] = result(node.op, l, r);
+        let l = value_at(&values, drawn.left, drawn.plain);
+        let r = value_at(&values, drawn.right, drawn.plain);
+        let node = moderate_between(drawn, i, l, r);
+        values[i] = result(node.op, l, r);
         word[i] = node.word();
         plain[i] = node.plain;
     }
@@ -70,7 +72,7 @@ pub(crate) fn right_of(word: u64) -> usize {
 
 impl Recording {
     fn word(self) -> u64
-        requires { ⌜ (self .left ≤ 65535) × (self .right ≤ 65535) ⌝ }
+        requires { ⌜ (self .left ≤ most-nodes) × (self .right ≤ most-nodes) ⌝ }
     {
         self.op as u64 | (self.left as u64) << 8 | (self.right as u64) << 24
     }
@@ -92,8 +94,8 @@ fn part(draw: u64, shift: u32, end: usize) -> usize
 }
 
 fn planned(reach: Reach, i: usize, draw: u64) -> Recording
-    requires { ⌜ i < 65535 ⌝ }
-    ensures { λ x. ⌜ (x .left ≤ 65535) × (x .right ≤ 65535) ⌝ }
+    requires { ⌜ i < most-nodes ⌝ }
+    ensures { λ x. ⌜ (x .left ≤ most-nodes) × (x .right ≤ most-nodes) ⌝ }
 {
     if i < LEAVES {
         return leaf(i);
@@ -115,7 +117,7 @@ fn planned(reach: Reach, i: usize, draw: u64) -> Recording
 
 fn leaf(i: usize) -> Recording
     requires { ⌜ i < 15 ⌝ }
-    ensures { λ x. ⌜ (x .left ≤ 65535) × (x .right ≤ 65535) ⌝ }
+    ensures { λ x. ⌜ (x .left ≤ most-nodes) × (x .right ≤ most-nodes) ⌝ }
 {
     Recording {
         op: LEAF,
@@ -126,8 +128,8 @@ fn leaf(i: usize) -> Recording
 }
 
 fn sum(i: usize) -> Recording
-    requires { ⌜ (16 ≤ i) × (i < 65535) ⌝ }
-    ensures { λ x. ⌜ (x .left ≤ 65535) × (x .right ≤ 65535) ⌝ }
+    requires { ⌜ (16 ≤ i) × (i < most-nodes) ⌝ }
+    ensures { λ x. ⌜ (x .left ≤ most-nodes) × (x .right ≤ most-nodes) ⌝ }
 {
     Recording {
         op: ADD,
@@ -138,11 +140,11 @@ fn sum(i: usize) -> Recording
 }
 
 fn mixed(draw: u64, left: usize, right: usize) -> Recording
-    requires { ⌜ (left ≤ 65535) × (right ≤ 65535) ⌝ }
-    ensures { λ x. ⌜ (x .left ≤ 65535) × (x .right ≤ 65535) ⌝ }
+    requires { ⌜ (left ≤ most-nodes) × (right ≤ most-nodes) ⌝ }
+    ensures { λ x. ⌜ (x .left ≤ most-nodes) × (x .right ≤ most-nodes) ⌝ }
 {
     Recording {
-        op: 1 + part(draw, 48, 7) as u8,
+        op: ADD + part(draw, 48, NEGATE as usize) as u8,
         left,
         right: right_or_plain(right, draw),
         plain: (384 + part(draw, 40, 256)) as u16 as f64 / 256.0,
@@ -151,8 +153,8 @@ fn mixed(draw: u64, left: usize, right: usize) -> Recording
 
 // One right operand in four is plain.
 fn right_or_plain(right: usize, draw: u64) -> usize
-    requires { ⌜ right ≤ 65535 ⌝ }
-    ensures { λ x. ⌜ x ≤ 65535 ⌝ }
+    requires { ⌜ right ≤ most-nodes ⌝ }
+    ensures { λ x. ⌜ x ≤ most-nodes ⌝ }
 {
     if part(draw, 32, 4) == 0 {
         return PLAIN;
@@ -162,8 +164,8 @@ fn right_or_plain(right: usize, draw: u64) -> usize
 
 // A node of the same block, or for a block's first node a leaf.
 fn near(i: usize, place: usize, draw: u64, shift: u32) -> usize
-    requires { ⌜ (place ≤ i) × (i < 65535) × (shift < 64) ⌝ }
-    ensures { λ x. ⌜ x ≤ 65535 ⌝ }
+    requires { ⌜ (place ≤ i) × (i < most-nodes) × (shift < 64) ⌝ }
+    ensures { λ x. ⌜ x ≤ most-nodes ⌝ }
 {
     if place == 0 {
         return part(draw, shift, LEAVES);
@@ -173,8 +175,8 @@ fn near(i: usize, place: usize, draw: u64, shift: u32) -> usize
 
 // The node so many before, or where that is in another block a leaf.
 fn before(i: usize, place: usize, back: usize) -> usize
-    requires { ⌜ (place ≤ i) × (i < 65535) ⌝ }
-    ensures { λ x. ⌜ x ≤ 65535 ⌝ }
+    requires { ⌜ (place ≤ i) × (i < most-nodes) ⌝ }
+    ensures { λ x. ⌜ x ≤ most-nodes ⌝ }
 {
     if place < back {
         return i / BLOCK % LEAVES;
@@ -182,14 +184,14 @@ fn before(i: usize, place: usize, back: usize) -> usize
     i - back
 }
 
-fn worth_at(worth: &[f64; NODES], at: usize, plain: f64) -> f64 {
-    if at < NODES { worth[at] } else { plain }
+fn value_at(values: &[f64; NODES], at: usize, plain: f64) -> f64 {
+    if at < NODES { values[at] } else { plain }
 }
 
 // Leaves and sums stay as they are.
-fn settled(node: Recording, i: usize, l: f64, r: f64) -> Recording
-    requires { ⌜ (i < 65535) × (node .left ≤ 65535) × (node .right ≤ 65535) ⌝ }
-    ensures { λ x. ⌜ (x .left ≤ 65535) × (x .right ≤ 65535) ⌝ }
+fn moderate_between(node: Recording, i: usize, l: f64, r: f64) -> Recording
+    requires { ⌜ (i < most-nodes) × (node .left ≤ most-nodes) × (node .right ≤ most-nodes) ⌝ }
+    ensures { λ x. ⌜ (x .left ≤ most-nodes) × (x .right ≤ most-nodes) ⌝ }
 {
     if (i < LEAVES) | ((i + 1) % BLOCK == LEAVES) {
         return node;
@@ -197,10 +199,11 @@ fn settled(node: Recording, i: usize, l: f64, r: f64) -> Recording
     moderate(node, l, r)
 }
 
-// Negation in place of an operation whose result would be large or small, or of a maximum or minimum of equals, whose partials are a matter of their own.
+// Negation in place of an operation whose result would be large or small, or of a maximum or minimum of equals, whose
+// partials are a matter of their own.
 fn moderate(node: Recording, l: f64, r: f64) -> Recording
-    requires { ⌜ (node .left ≤ 65535) × (node .right ≤ 65535) ⌝ }
-    ensures { λ x. ⌜ (x .left ≤ 65535) × (x .right ≤ 65535) ⌝ }
+    requires { ⌜ (node .left ≤ most-nodes) × (node .right ≤ most-nodes) ⌝ }
+    ensures { λ x. ⌜ (x .left ≤ most-nodes) × (x .right ≤ most-nodes) ⌝ }
 {
     let mut kept = node;
     let x = result(node.op, l, r);
@@ -217,13 +220,13 @@ fn is_moderate(x: f64) -> bool {
 
 fn result(op: u8, l: f64, r: f64) -> f64 {
     match op {
-        1 => l + r,
-        2 => l - r,
-        3 => l * r,
-        4 => l / r,
-        5 => if l >= r { l } else { r },
-        6 => if l <= r { l } else { r },
-        7 => 0.0 - l,
+        ADD => l + r,
+        SUBTRACT => l - r,
+        MULTIPLY => l * r,
+        DIVIDE => l / r,
+        MAX => if l >= r { l } else { r },
+        MIN => if l <= r { l } else { r },
+        NEGATE => 0.0 - l,
         _ => l,
     }
 }

@@ -1,17 +1,18 @@
-// What a run comes to: how many edges its last walk visited, and a digest of the values and of the adjoints that it left.
-use crate::orders::Order;
+// What a run comes to: how many edges its last walk visited, and a digest of the values and of the adjoints that it
+// left.
 use crate::plan::Reach;
 use crate::plan::SEED;
 use crate::plan::next;
+use crate::requests::Request;
 use libc::STDOUT_FILENO;
 use listing::bits_of;
 
 const DIGITS: usize = 16;
 
-pub(crate) fn rounds(order: Order, edges: u32, value: &[f64], adjoint: &[f64]) {
-    let reach = order.reach;
+pub(crate) fn rounds(request: Request, edges: u32, value: &[f64], adjoint: &[f64]) {
+    let reach = request.reach;
     name(reach);
-    number(b" times=", order.times);
+    number(b" times=", request.times);
     number(b" nodes=", value.len() as u64);
     number(b" edges=", edges as u64);
     text(b" values=");

@@ -12,12 +12,7 @@ use tape::Moved;
 use tape::Operand;
 use tape::Tape;
 ghost use Prim.Native.Nat.{_<_};
-
-const NOTHING: Supplied = Supplied {
-    value: 0.0,
-    left: 0.0,
-    right: 0.0,
-};
+ghost use Rattle.tape.specs.Machine.{most-nodes};
 
 // The tape after a round, and the edges that its walk visited.
 pub struct Round {
@@ -141,7 +136,7 @@ fn record_one(
     plain: f64,
     serials: &mut [u64; NODES],
 ) -> Tape
-    requires { ⌜ i < 65535 ⌝ }
+    requires { ⌜ i < most-nodes ⌝ }
 {
     let l = operand(left_of(word), plain, &*serials);
     let r = operand(right_of(word), plain, &*serials);
@@ -156,14 +151,14 @@ fn record_one(
         op_of(word),
         l,
         r,
-        NOTHING,
+        Supplied::NONE,
     );
     kept(answer, i, serials)
 }
 
 // The caller keeps the serials of its handles; their indexes are the places where it keeps them.
 fn kept(answer: Recorded, i: usize, serials: &mut [u64; NODES]) -> Tape
-    requires { ⌜ i < 65535 ⌝ }
+    requires { ⌜ i < most-nodes ⌝ }
 {
     match answer {
         Recorded::Node(_, handle, after) => {

@@ -1,19 +1,28 @@
--- The step of a start, stop, mark or rewind: the state after it, unless the state does not fit.
+-- The step of a start, stop, mark or rewind: the state after it, unless it is not let in.
 use mathlib.Core.Path.{_≡_, refl, ap, _∙_}
-use mathlib.Core.Bool.{Bool, true, false, not, cond}
+use mathlib.Core.List.{[], _∷_}
+use mathlib.Core.Option.{Option, none, some}
 use Rattle.tape.specs.Numbers.{floats}
-use Rattle.tape.specs.Machine.{Arrays, machine, all, state-fits}
-use Rattle.tape.specs.Answers.{outcome, done, refused}
-use Rattle.tape.specs.Calls.{Move, move, moved, step}
-use Rattle.tape.specs.declared.errors.Refusal.the-variants.{Misshapen}
-use Rattle.tape.specs.declared.state.Moved.{Moved}
-use Rattle.tape.specs.declared.state.Moved.the-variants.{Done, Refused}
-use Rattle.tape.specs.declared.state.Tape.{Tape}
+use Rattle.tape.specs.Machine.{Arrays, machine}
+use Rattle.tape.specs.Answers.{outcome, done}
+use Rattle.tape.specs.Calls.{Move, start, stop, set-mark, reset-mark, rewind-to-mark, rewind-to-init, move, moved}
+use Rattle.tape.specs.Admission.{admitted, admission}
+use Rattle.tape.specs.Refusals.{mover, first}
+use Rattle.tape.specs.Steps.{unless, step}
+use Rattle.tape.specs.Inner.{no-arrays, moved-by}
+use Rattle.tape.specs.declared.errors.Refusal.{Refusal}
+use Rattle.tape.specs.declared.tape.Moved.{Moved}
+use Rattle.tape.specs.declared.tape.Tape.{Tape}
 
-by-test : (b : Bool) (t u : Tape) (A : Arrays floats) → outcome (cond b (Done u) (Refused Misshapen t)) A ≡ cond (not b) (refused Misshapen, machine t A) (done, machine u A)
-by-test true t u A = refl
-by-test false t u A = refl
+by-row : (o : Option Refusal) (t u : Tape) (A : Arrays floats) → outcome (moved-by (admitted o) t u) A ≡ unless (first (o ∷ [])) (machine t A) (done, machine u A)
+by-row none t u A = refl
+by-row (some r) t u A = refl
 
-pub move-told : (m : Move) (t : Tape) (x : Moved) → x ≡ cond (all (state-fits 65535 t)) (Done (moved m t)) (Refused Misshapen t) → (A : Arrays floats) → outcome x A ≡ step (move m) (machine t A)
+pub move-steps : (m : Move) (t : Tape) (x : Moved) → x ≡ moved-by (admitted (admission (mover m) no-arrays t)) t (moved m t) → (A : Arrays floats) → outcome x A ≡ step (move m) (machine t A)
 unfolding step
-move-told m t x e A = ap (λ y. outcome y A) e ∙ by-test (all (state-fits 65535 t)) t (moved m t) A
+move-steps start t x e A = ap (λ y. outcome y A) e ∙ by-row (admission (mover start) no-arrays t) t (moved start t) A
+move-steps stop t x e A = ap (λ y. outcome y A) e ∙ by-row (admission (mover stop) no-arrays t) t (moved stop t) A
+move-steps set-mark t x e A = ap (λ y. outcome y A) e ∙ by-row (admission (mover set-mark) no-arrays t) t (moved set-mark t) A
+move-steps reset-mark t x e A = ap (λ y. outcome y A) e ∙ by-row (admission (mover reset-mark) no-arrays t) t (moved reset-mark t) A
+move-steps rewind-to-mark t x e A = ap (λ y. outcome y A) e ∙ by-row (admission (mover rewind-to-mark) no-arrays t) t (moved rewind-to-mark t) A
+move-steps rewind-to-init t x e A = ap (λ y. outcome y A) e ∙ by-row (admission (mover rewind-to-init) no-arrays t) t (moved rewind-to-init t) A

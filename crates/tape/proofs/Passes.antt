@@ -1,27 +1,33 @@
--- A call that is not refused does what `carried` says, a range that is cut in two is walked in two, and what a pass walks ends at or below the length.
+-- A call that is not refused does what `carried` says, a range that is cut in two is walked in two, and what a pass
+-- walks ends at or below the length.
 use Prim.Native.Nat.{ℕ, zero, suc, _+_, _-_, _≤_, _<_, zero-le}
 use native.Mathlib.Nat.{zero-add, add-zero, add-suc, suc-add, sub-self, add-sub-of-le}
 use native.Mathlib.Omega.{arith}
 use mathlib.Core.Path.{_≡_, refl, sym, ap, subst, _∙_}
 use mathlib.Core.Bool.{true, false, true≢false, and-eq-true-iff}
 use mathlib.Core.List.{List, [], _∷_, _++_, map, map-append}
-use borrow.Author.Tests.{ltb-true, not-true, not-false}
+use mathlib.Core.Option.{some, none}
+use borrow.Author.Tests.{ltb-true}
 use lib.Dec.{ltb}
 use lib.ListN.{length, getD, set, length-map}
 use lib.Seq.{getD-set-other}
 use Rattle.tape.specs.Numbers.{Numbers}
-use Rattle.tape.specs.Machine.{Arrays, Machine, machine, slot, all, fits}
+use Rattle.tape.specs.Machine.{Arrays, Machine, machine, slot, all, most-nodes}
 use Rattle.tape.specs.Handles.{plain, node, handles}
 use Rattle.tape.specs.Walk.{Edge, push, walk, edges-from, edges-at, indexes, sum, visited, sound}
-use Rattle.tape.specs.Answers.{Answer, done, counted}
-use Rattle.tape.specs.Calls.{reset-mark, Pass, backward, backward-to-mark, backward-mark-to-start, propagate-to-mark, propagate-mark-to-start, Call, move, operate, clear, pass, value-of, adjoint-of, is-live, list, moved, with-adjoints, plan, asked, any-stale, refusals, carried, step, run}
+use Rattle.tape.specs.Answers.{Answer, number, done, counted}
+use Rattle.tape.specs.Calls.{reset-mark, Pass, backward, backward-to-mark, backward-mark-to-start, propagate-to-mark, propagate-mark-to-start, Call, move, operate, clear, pass, value-of, adjoint-of, is-live, list, moved, with-adjoints, plan, carried}
+use Rattle.tape.specs.Admission.{let-in}
+use Rattle.tape.specs.Refusals.{refusal-of, asked, unknown, first-amiss, too-long}
+use Rattle.tape.specs.Steps.{step, run}
 use Rattle.tape.specs.Kept.{fresh, after}
 use Rattle.tape.specs.Passes.{EachEdge, push-edge-by-edge, OnlyAdjoints, EmptyRange, BothRanges, NeverUnsound, Unrefused, counts, in-one, in-two}
-use Rattle.tape.specs.declared.errors.Refusal.the-variants.{UnsoundEdge}
-use Rattle.tape.proofs.OneToOne.{by-number, at-refusal, told}
+use Rattle.tape.specs.declared.errors.Refusal.{Refusal}
+use Rattle.tape.specs.declared.admission.Caller.the-variants as caller
+use Rattle.tape.proofs.OneToOne.{by-number, at-refusal}
 use Rattle.tape.proofs.Ranges.{length-indexes, indexes-cut, sum-append, all-append, all-below}
 use Rattle.tape.proofs.Recording.{SoundNodes, recording}
-use Rattle.tape.proofs.Steps.{Hit, here, there, Passed, by-refusal, first-live}
+use Rattle.tape.proofs.Steps.{by-table, granted-shape, Passed, shape, sound-range, by-refusal, first-live}
 use Rattle.tape.proofs.Tests.{by-test, Fit, fit, state-fit-so, refits}
 
 -- ---- each edge
@@ -80,7 +86,7 @@ module _ {N : Numbers} (A : Arrays N) (i m n : ℕ) (l : i ≤ m) (h : m ≤ n) 
   pub sound-cut : all (map (sound A) (indexes m (n - m))) ≡ true → all (map (sound A) (indexes i (m - i))) ≡ true → all (map (sound A) (indexes i (n - i))) ≡ true
   sound-cut high low = rw (indexes-cut i m n l h, map-append, all-append, low) high
 
--- x is what a call does that is not refused
+-- x is what a call that is not refused does
 pub record Accepted {N : Numbers} (c : Call N) (M : Machine N) (x : Answer N × Machine N) : Type 0 where
   pub passed : Passed c M
   pub carries : x ≡ carried c M
@@ -103,7 +109,7 @@ reset M = machine (moved reset-mark (M .state)) (M .lent)
 module _ {N : Numbers} (M : Machine N) (f : Fit M) where
   resets : step (move reset-mark) M ≡ (done, reset M)
   unfolding step
-  resets = rw (state-fit-so 65535 (M .state) (record { length = omega arith; mark = omega arith; next = f .state .next }))
+  resets = rw (state-fit-so most-nodes (M .state) (record { length = omega arith; mark = omega arith; next = f .state .next }))
 
   walks-whole : all (map (sound (M .lent)) (indexes 0 (M .state .length - 0))) ≡ true → step (pass propagate-to-mark) (reset M) ≡ carried (pass propagate-to-mark) (reset M)
   unfolding step
@@ -117,10 +123,10 @@ one-walk : {N : Numbers} (M : Machine N) → Unrefused (run (in-two N) M .0) →
 one-walk M (u, (v, _)) =
     let high = accepted (pass propagate-to-mark) M u in
     let low = accepted (pass propagate-mark-to-start) (carried (pass propagate-to-mark) M .1) (rw (high .carries) at v) in
-    let f : Fit M = fit M (high .passed .shape) in
+    let f : Fit M = fit M (shape (high .passed)) in
     let mark = M .state .mark in
     let end = M .state .length in
-    let every = sound-cut (M .lent) 0 mark end zero-le (f .state .mark) (high .passed .sound-range) (low .passed .sound-range) in
+    let every = sound-cut (M .lent) 0 mark end zero-le (f .state .mark) (sound-range (high .passed)) (sound-range (low .passed)) in
     let visits = visited-cut (M .lent) 0 mark end zero-le (f .state .mark) in
     let walks = walk-cut (M .lent) 0 mark end zero-le (f .state .mark) (M .lent .adjoint) in
     two-calls (move reset-mark) (pass propagate-to-mark) M (resets M f) (walks-whole M f every)
@@ -137,7 +143,8 @@ both-ranges = record {
 
 -- ---- sound tapes
 
-ends : {N : Numbers} (p : Pass N) (M : Machine N) → Fit M → any-stale M (handles (plan p (M .state) .root)) ≡ false → plan p (M .state) .end ≤ M .state .length
+-- what a pass walks ends at or below the length
+pub ends : {N : Numbers} (p : Pass N) (M : Machine N) → Fit M → first-amiss M (handles (plan p (M .state) .root)) ≡ none → plan p (M .state) .end ≤ M .state .length
 ends (backward (plain x)) M f all-live = omega arith
 ends (backward (node h)) M f all-live = let l = first-live M h [] all-live .0 in omega arith
 ends (backward-to-mark x) M f all-live = omega arith
@@ -146,10 +153,10 @@ ends propagate-to-mark M f all-live = omega arith
 ends propagate-mark-to-start M f all-live = omega arith
 
 module _ {N : Numbers} (M : Machine N) (nodes : SoundNodes M) where
-  pub range-sound : (c : Call N) → fits (asked c (M .state) .arrays) M ≡ true → any-stale M (handles (asked c (M .state) .operands)) ≡ false → all (map (sound (M .lent)) (asked c (M .state) .range)) ≡ true
-  range-sound (pass p) shape all-live =
+  pub range-sound : (c : Call N) → let-in (asked c (M .state) .caller) M ≡ none → first-amiss M (handles (asked c (M .state) .operands)) ≡ none → all (map (sound (M .lent)) (asked c (M .state) .range)) ≡ true
+  range-sound (pass p) in-so all-live =
       let P = plan p (M .state) in
-      let end : P .end ≤ M .state .length = ends p M (fit M shape) all-live in
+      let end : P .end ≤ M .state .length = ends p M (fit M (granted-shape caller.Passing M in-so)) all-live in
       all-below (sound (M .lent)) (P .from) (P .end - P .from) (λ j l h. nodes j (omega arith))
   range-sound (move m) _ _ = refl
   range-sound (operate op left right g) _ _ = refl
@@ -159,9 +166,18 @@ module _ {N : Numbers} (M : Machine N) (nodes : SoundNodes M) where
   range-sound (is-live x) _ _ = refl
   range-sound (list bytes) _ _ = refl
 
-  not-hit : (c : Call N) → Hit UnsoundEdge (refusals (asked c (M .state)) M) → ⊥
-  not-hit c (there shape (there _ (there all-live (there _ (there _ (there _ (here unsound))))))) = true≢false (sym (range-sound c (not-false _ shape) all-live) ∙ not-true _ unsound)
-  not-hit c (there _ (there _ (there _ (there _ (there _ (there _ (there _ (there _ h)))))))) = elim h [ ]
+  -- no other row gives refusal 7
+  not-unsound : (c : Call N) (r : Refusal) → refusal-of c M ≡ some r → number r ≡ 7 → ⊥
+  not-unsound c = by-table (λ r. number r ≡ 7 → ⊥) c M (record {
+    misshapen = λ e. omega arith;
+    unknown = λ e. omega arith;
+    not-live = λ h e. omega arith;
+    detached = λ e. omega arith;
+    full = λ e. omega arith;
+    spent = λ e. omega arith;
+    unsound = λ in-so all-live e _. true≢false (sym (range-sound c in-so all-live) ∙ e);
+    too-long = λ e. omega arith;
+  })
 
 pub carried-number : {N : Numbers} (c : Call N) (M : Machine N) → carried c M .0 .number ≡ 0
 carried-number {N} (operate op left right g) M = by-test (λ (x : Answer N × Machine N). x .0 .number ≡ 0) (M .state .active) (λ _. refl) (λ _. refl)
@@ -181,6 +197,6 @@ never-unsound = record {
       (λ x. x .0 .number ≡ 7 → ⊥)
       c
       M
-      (λ r h e. not-hit M (recording .sound-nodes A before) c (subst (λ q. Hit q (refusals (asked c (M .state)) M)) (told .numbers r UnsoundEdge e) h))
+      (not-unsound M (recording .sound-nodes A before) c)
       (λ _ e. omega (arith, carried-number c M));
 }

@@ -1,9 +1,11 @@
 -- The statements of specs/, each with its proof.
-use Rattle.tape.specs.Answers.{Told}
+use Rattle.tape.specs.Answers.{OneToOne}
 use Rattle.tape.specs.Kept.{StaleHandles, Revived, Serials, Recording}
 use Rattle.tape.specs.Passes.{EachEdge, OnlyAdjoints, EmptyRange, BothRanges, NeverUnsound}
-use Rattle.tape.specs.Rows.{EveryRow, EveryText}
-use Rattle.tape.proofs.OneToOne as one-to-one
+use Rattle.tape.specs.Rows.{EveryRow, EveryChoice, EveryText}
+use Rattle.tape.specs.Pairs.{Order}
+use Rattle.tape.proofs.OneToOne as answers
+use Rattle.tape.proofs.Pairs as pairs
 use Rattle.tape.proofs.Passes as passes
 use Rattle.tape.proofs.Recording as recorded
 use Rattle.tape.proofs.Revived as alive
@@ -11,8 +13,8 @@ use Rattle.tape.proofs.Rows as rows
 use Rattle.tape.proofs.Serials as counted
 use Rattle.tape.proofs.Stale as stale
 
-told : Told
-told = one-to-one.told
+one-to-one : OneToOne
+one-to-one = answers.one-to-one
 
 stale-handles : StaleHandles
 stale-handles = stale.stale-handles
@@ -44,5 +46,11 @@ never-unsound = passes.never-unsound
 every-row : EveryRow
 every-row = rows.every-row
 
+every-choice : EveryChoice
+every-choice = rows.every-choice
+
 every-text : EveryText
 every-text = rows.every-text
+
+order : Order
+order = pairs.order

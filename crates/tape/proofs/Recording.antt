@@ -11,12 +11,13 @@ use lib.Dec.{leb, ltb}
 use lib.ListN.{length, getD, take, drop, set, length-set}
 use lib.Seq.{getD-set-same, getD-set-other, take-set-le, drop-set-add, sets}
 use Rattle.tape.specs.Numbers.{Numbers}
-use Rattle.tape.specs.Machine.{Arrays, Machine, slot, all}
-use Rattle.tape.specs.Handles.{Operand, node, live, worth}
+use Rattle.tape.specs.Machine.{Arrays, Machine, slot, all, most-edges}
+use Rattle.tape.specs.Handles.{Operand, node, live, operand-value}
 use Rattle.tape.specs.Operations.{Given, apply}
 use Rattle.tape.specs.Walk.{Edge, edges-from, edges-at, sound}
 use Rattle.tape.specs.Answers.{Answer}
-use Rattle.tape.specs.Calls.{move, operate, edges, issued, written, step}
+use Rattle.tape.specs.Calls.{move, operate, edges, issued, written}
+use Rattle.tape.specs.Steps.{step}
 use Rattle.tape.specs.Kept.{Recording, SameBelow, fresh}
 use Rattle.tape.specs.declared.node.Handle.{Handle}
 use Rattle.tape.proofs.Tests.{by-test}
@@ -60,24 +61,24 @@ module _ {N : Numbers} where
 
 -- ---- the node that is answered
 
-answered : {N : Numbers} {M : Machine N} {x : Answer N × Machine N} (h : Handle) → Effect M x → x .0 .handle ≡ some h → (live (x .1) h ≡ true) × (worth (x .1) (node h) ≡ x .0 .value)
-answered h (keeps l) e = let f : _≡_ {A = ℕ} 0 1 = cc in absurd (omega arith)
+answered : {N : Numbers} {M : Machine N} {x : Answer N × Machine N} (h : Handle) → Effect M x → x .0 .handle ≡ some h → (live (x .1) h ≡ true) × (operand-value (x .1) (node h) ≡ x .0 .value)
+answered h (keeps l _) e = let f : _≡_ {A = ℕ} 0 1 = cc in absurd (omega arith)
 answered {N} {M} h (records v es r s) e =
     subst
-    (λ h. (live (written M v es) h ≡ true) × (worth (written M v es) (node h) ≡ v))
+    (λ h. (live (written M v es) h ≡ true) × (operand-value (written M v es) (node h) ≡ v))
     (Option·some-injective _ _ e)
     (lives-so _ (written M v es .lent .serial) (issued (M .state)) (record { below = omega arith; serial = r .fit .state .next; same = getD-set-same (M .lent .serial) _ _ 0 (omega arith) }), getD-set-same (M .lent .value) _ _ _ (r .room))
 
 -- ---- sound nodes
 
-sound-by : {N : Numbers} (A : Arrays N) (i k : ℕ) (es : List (Edge N)) → getD (A .count) i 0 ≡ k → k ≤ 2 → edges-from (A .child) (A .partial) (slot i) k ≡ es → all (map (λ e. ltb (e .child) i) es) ≡ true → sound A i ≡ true
-sound-by A i k es count few same below = rw (count, same, le-leb k 2 few) below
+sound-by : {N : Numbers} (A : Arrays N) (i k : ℕ) (es : List (Edge N)) → getD (A .count) i 0 ≡ k → k ≤ most-edges → edges-from (A .child) (A .partial) (slot i) k ≡ es → all (map (λ e. ltb (e .child) i) es) ≡ true → sound A i ≡ true
+sound-by A i k es count few same below = rw (count, same, le-leb k most-edges few) below
 
 abbrev pub SoundNodes : {N : Numbers} → Machine N → Type 0
 SoundNodes M = (i : ℕ) → i < M .state .length → sound (M .lent) i ≡ true
 
 pub sound-kept : {N : Numbers} (M : Machine N) (x : Answer N × Machine N) → Effect M x → SoundNodes M → SoundNodes (x .1)
-sound-kept M _ (keeps l) is = λ i h. is i (omega arith)
+sound-kept M _ (keeps l _) is = λ i h. is i (omega arith)
 sound-kept M _ (records v es r s) is =
     let n = M .state .length in
     let A = M .lent in
@@ -88,8 +89,8 @@ sound-kept M _ (records v es r s) is =
     (sound-by B n (length es) es (getD-set-same (A .count) n _ 0 (omega arith)) (s .few) (edges-stored (A .child) (A .partial) (slot n) es (omega arith) (omega arith)) (s .below))
     (λ i h.
     let k = getD (A .count) i 0 in
-    let both = and-eq-true-iff (leb k 2) (all (map (λ e. ltb (e .child) i) (edges-at A i))) .0 (is i h) in
-    let few : k ≤ 2 = leb-true _ _ (both .0) in
+    let both = and-eq-true-iff (leb k most-edges) (all (map (λ e. ltb (e .child) i) (edges-at A i))) .0 (is i h) in
+    let few : k ≤ most-edges = leb-true _ _ (both .0) in
     sound-by B i k _ (getD-set-other (A .count) n i _ 0 (λ e. omega arith)) few (edges-before (A .child) (A .partial) (slot n) (map (λ e. e .child) es) (map (λ e. e .weight) es) (slot i) k (omega arith)) (both .1))
 
 -- ---- what is below
@@ -112,7 +113,7 @@ below-written M v es =
 
 below : {N : Numbers} (op : ℕ) (left right : Operand N) (g : Given N) (M : Machine N) → SameBelow (M .state .length) (M .lent) (step (operate op left right g) M .1 .lent)
 below {N} op left right g M =
-    let es = edges left right (apply op (worth M left) (worth M right) g) in
+    let es = edges left right (apply op (operand-value M left) (operand-value M right) g) in
     let Same : Answer N × Machine N → Type 0 = λ x. SameBelow (M .state .length) (M .lent) (x .1 .lent) in
     by-refusal Same (operate op left right g) M (λ r _. same _ _) (λ p. by-test Same (M .state .active) (λ _. below-written M _ es) (λ _. same _ _))
 

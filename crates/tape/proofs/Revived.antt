@@ -3,9 +3,10 @@ use mathlib.Core.Path.{refl}
 use mathlib.Core.Bool.{true}
 use mathlib.Core.List.{[], _∷_}
 use Rattle.tape.specs.Numbers.{floats}
-use Rattle.tape.specs.Machine.{machine, arrays}
+use Rattle.tape.specs.Machine.{machine, arrays, state}
 use Rattle.tape.specs.Handles.{plain}
-use Rattle.tape.specs.Calls.{move, operate, rewind-to-init, step}
+use Rattle.tape.specs.Calls.{move, operate, rewind-to-init}
+use Rattle.tape.specs.Steps.{step}
 use Rattle.tape.specs.Kept.{Revived}
 
 pub revived : Revived
@@ -13,7 +14,7 @@ unfolding step
 revived =
     let O = floats .nought in
     record {
-      before = machine (record { length = 1; mark = 0; active = true; next = 7 }) (arrays (O ∷ []) (O ∷ []) (7 ∷ []) (0 ∷ []) (0 ∷ 0 ∷ []) (O ∷ O ∷ []));
+      before = machine (state 1 0 true 7) (arrays (O ∷ []) (O ∷ []) (7 ∷ []) (0 ∷ []) (0 ∷ 0 ∷ []) (O ∷ O ∷ []));
       handle = record { index = 0; serial = 7 };
       between = move rewind-to-init ∷ [];
       later = operate 0 (plain O) (plain O) (record { value = O; left = O; right = O }) ∷ [];

@@ -1,4 +1,5 @@
--- A handle that stopped being live has a serial that was given out, and what is recorded later gets another: by cases on what a step leaves.
+-- A handle that stopped being live has a serial that was given out, and what is recorded later gets another: by cases
+-- on what a step leaves.
 use Prim.Native.Nat.{ℕ, _+_, _<_}
 use native.Mathlib.Omega.{arith}
 use mathlib.Core.Path.{_≡_, refl, sym, _∙_}
@@ -14,7 +15,7 @@ use Rattle.tape.specs.Calls.{Call}
 use Rattle.tape.specs.Kept.{StaleHandles, SerialsIssued, fresh, after}
 use Rattle.tape.specs.declared.node.Handle.{Handle}
 use Rattle.tape.proofs.Serials.{never-fall}
-use Rattle.tape.proofs.Steps.{Effect, keeps, records, Lives, lives-told, lives-so, kept, last-or-below}
+use Rattle.tape.proofs.Steps.{Effect, keeps, records, Lives, lives-parts, lives-so, kept, last-or-below}
 
 -- a list below n + 1 once v is stored at n
 after-set : (P : ℕ → ℕ → Type 0) (l : List ℕ) (n v : ℕ) → n < length l → P n v → ((i : ℕ) → i < n → P i (getD l i 0)) → (i : ℕ) → i < n + 1 → P i (getD (set l n v) i 0)
@@ -22,7 +23,7 @@ after-set P l n v h new old =
     last-or-below (λ i. P i (getD (set l n v) i 0)) n (rw (getD-set-same l n v 0 h) new) (λ i b. rw (getD-set-other l n i v 0 (λ e. omega arith)) (old i b))
 
 issued-kept : {N : Numbers} (M : Machine N) (x : Answer N × Machine N) → Effect M x → SerialsIssued M → SerialsIssued (x .1)
-issued-kept M _ (keeps l) is = λ i h. is i (omega arith)
+issued-kept M _ (keeps l e) is = λ i h. omega (arith, is i (omega arith))
 issued-kept M _ (records v es r s) is = after-set (λ i k. k < M .state .next + 1) (M .lent .serial) _ _ (omega arith) (omega arith) (λ i h. omega (arith, is i h))
 
 -- not live, its serial given out
@@ -31,7 +32,7 @@ record Past {N : Numbers} (h : Handle) (M : Machine N) : Type 0 where
   serial : h .serial < M .state .next
 
 past-kept : {N : Numbers} (h : Handle) (M : Machine N) (x : Answer N × Machine N) → Effect M x → Past h M → Past h (x .1)
-past-kept h M _ (keeps l) p = record { dead = λ a. p .dead (record { below = omega arith; serial = a .serial; same = a .same }); serial = p .serial }
+past-kept h M _ (keeps l e) p = record { dead = λ a. p .dead (record { below = omega arith; serial = a .serial; same = a .same }); serial = omega arith }
 past-kept h M _ (records v es r s) p =
     let n = M .state .length in
     let ss = M .lent .serial in
@@ -50,13 +51,13 @@ module _ {N : Numbers} (M : Machine N) (h : Handle) (is : SerialsIssued M) (was 
   -- its serial was given out, and still is
   given-out : (cs : List (Call N)) → h .serial < after cs M .state .next
   given-out cs =
-      let a = lives-told _ (M .lent .serial) h was in
+      let a = lives-parts _ (M .lent .serial) h was in
       kept (λ M′. h .serial < M′ .state .next) (λ M′ x e l. omega (arith, never-fall e)) cs M (omega (arith, is (h .index) (a .below)))
 
   never-again : (between later : List (Call N)) → live (after between M) h ≡ false → live (after later (after between M)) h ≡ false
   never-again between later stopped =
       let p : Past h (after between M) = record { dead = λ a. true≢false (sym (lives-so _ _ h a) ∙ stopped); serial = given-out between } in
-      is-false _ (λ t. kept (Past h) (past-kept h) later (after between M) p .dead (lives-told _ _ h t))
+      is-false _ (λ t. kept (Past h) (past-kept h) later (after between M) p .dead (lives-parts _ _ h t))
 
 from-new : {N : Numbers} (A : Arrays N) (cs : List (Call N)) → SerialsIssued (after cs (fresh A))
 from-new A cs = kept SerialsIssued issued-kept cs (fresh A) (λ i h. absurd (omega arith))

@@ -3,64 +3,169 @@ use Prim.Native.Nat.{ℕ, suc, _+_, _≤_, _<_, zero-le}
 use native.Mathlib.Nat.{le-refl}
 use native.Mathlib.Omega.{arith}
 use native.Mathlib.Decide.{decLt}
-use mathlib.Core.Path.{_≡_, refl, subst}
-use mathlib.Core.Bool.{Bool, true, false, not, _&&_, _||_, cond, true≢false}
+use mathlib.Core.Path.{_≡_, refl, sym, ap, subst}
+use mathlib.Core.Bool.{Bool, true, false, not, _&&_, cond}
 use mathlib.Core.List.{List, [], _∷_, _++_, map, append-nil}
-use mathlib.Core.Option.{Option, none, some}
+use mathlib.Core.Option.{Option, none, some, Option·some-injective}
 use borrow.Author.Tests.{ltb-true, eqb-true, eqb-false, lt-ltb, eq-eqb, ne-eqb, not-true, not-false}
 use lib.Dec.{ltb, eqb}
 use lib.ListN.{length, getD}
 use Rattle.tape.specs.Numbers.{Numbers}
-use Rattle.tape.specs.Machine.{Machine, arrays, machine, capacity, all, fits}
-use Rattle.tape.specs.Handles.{Operand, plain, node, live, worth, handles, any-plain, lives}
+use Rattle.tape.specs.Machine.{Machine, arrays, machine, capacity, all, most-nodes, most-edges}
+use Rattle.tape.specs.Handles.{Operand, plain, node, live, amiss, any-plain, operand-value, handles, lives}
 use Rattle.tape.specs.Operations.{Given, apply, one-sided}
 use Rattle.tape.specs.Walk.{Edge, sound}
-use Rattle.tape.specs.Answers.{Answer, answer, refused, recorded}
-use Rattle.tape.specs.Calls.{Move, start, stop, set-mark, reset-mark, rewind-to-mark, rewind-to-init, Call, move, operate, clear, pass, value-of, adjoint-of, is-live, list, edge, edges, issued, written, asked, refusals, unless, unknown, any-stale, would-record, too-long, last-serial, carried, step}
+use Rattle.tape.specs.Answers.{Answer, number, answer, refused, recorded}
+use Rattle.tape.specs.Calls.{Move, start, stop, set-mark, reset-mark, rewind-to-mark, rewind-to-init, Call, move, operate, clear, pass, value-of, adjoint-of, is-live, list, edge, edges, issued, written, carried}
+use Rattle.tape.specs.Admission.{is-lent, fits, admitted, let-in, when}
+use Rattle.tape.specs.Refusals.{Asked, too-long, mover, asked, refusals, first, refusal-of, unknown, first-amiss, would-record, last-serial}
+use Rattle.tape.specs.Steps.{unless, step}
 use Rattle.tape.specs.Kept.{after}
 use Rattle.tape.proofs.Tests.{by-test, by-or, every, Fit, fit, state-fit}
 use Rattle.tape.specs.declared.errors.Refusal.{Refusal}
-use Rattle.tape.specs.declared.errors.Refusal.the-variants.{Misshapen}
+use Rattle.tape.specs.declared.errors.Refusal.the-variants.{Misshapen, UnknownOperation, Detached, Full, SerialsSpent, UnsoundEdge, ListingTooLong}
+use Rattle.tape.specs.declared.admission.Admission.{Admission}
+use Rattle.tape.specs.declared.admission.Admission.the-variants as admission
+use Rattle.tape.specs.declared.admission.Caller.{Caller}
 use Rattle.tape.specs.declared.node.Handle.{Handle}
+use Rattle.tape.specs.declared.tape.Tape.{Tape}
 
--- ---- the first test that hits
+-- ---- the first row that refuses
 
--- r is the first refusal of a table whose test hits
-pub data Hit (r : Refusal) : List (Refusal × Bool) → Type 0 where
-  here : {hit : Bool} {ts : List (Refusal × Bool)} → hit ≡ true → Hit r ((r, hit) ∷ ts)
-  there : {q : Refusal} {hit : Bool} {ts : List (Refusal × Bool)} → hit ≡ false → Hit r ts → Hit r ((q, hit) ∷ ts)
-
-abbrev Missed : List (Refusal × Bool) → Type 0
-Missed [] = Unit {0}
-Missed ((r, hit) ∷ ts) = (hit ≡ false) × Missed ts
-
-by-unless : {N : Numbers} (P : Answer N × Machine N → Type 0) (ts : List (Refusal × Bool)) (M : Machine N) {x : Answer N × Machine N} → ((r : Refusal) → Hit r ts → P (refused r, M)) → (Missed ts → P x) → P (unless ts M x)
-by-unless P [] M hit missed = missed tt
-by-unless P ((r, b) ∷ ts) M hit missed = by-test P b (λ e. hit r (here e)) (λ e. by-unless P ts M (λ q h. hit q (there e h)) (λ m. missed (e, m)))
-
--- no test hit
+-- no row refuses: each of them gives none
 pub record Passed {N : Numbers} (c : Call N) (M : Machine N) : Type 0 where
-  pub shape : fits (asked c (M .state) .arrays) M ≡ true
+  pub none-refuses : refusal-of c M ≡ none
+
+-- a step is the first refusal of the table, or what the call does where there is none
+pub by-refusal : {N : Numbers} (P : Answer N × Machine N → Type 0) (c : Call N) (M : Machine N) → ((r : Refusal) → refusal-of c M ≡ some r → P (refused r, M)) → (Passed c M → P (carried c M)) → P (step c M)
+unfolding step
+by-refusal {N} P c M hit passed = by-cases (refusal-of c M) refl where
+  by-cases : (o : Option Refusal) → refusal-of c M ≡ o → P (unless o M (carried c M))
+  by-cases none e = passed (record { none-refuses = e })
+  by-cases (some r) e = hit r e
+
+abbrev AllNone : List (Option Refusal) → Type 0
+AllNone [] = Unit {0}
+AllNone (o ∷ os) = (o ≡ none) × AllNone os
+
+not-some : {P : Type 0} {r : Refusal} → some r ≡ none → P
+not-some e = let z : _≡_ {A = ℕ} 0 1 = cc in absurd (omega arith)
+
+all-none : (os : List (Option Refusal)) → first os ≡ none → AllNone os
+all-none [] e = tt
+all-none (none ∷ os) e = (refl, all-none os e)
+all-none (some r ∷ os) e = not-some e
+
+pub unhit : (b : Bool) (r : Refusal) → when b r ≡ none → b ≡ false
+unhit true r e = not-some e
+unhit false r e = refl
+
+-- what is let in fits
+pub granted-shape : {N : Numbers} (k : Caller) (M : Machine N) → let-in k M ≡ none → fits (is-lent k) M ≡ true
+granted-shape k M e = not-false _ (unhit _ _ e)
+
+pub mover-unlent : (m : Move) → is-lent (mover m) ≡ false
+mover-unlent start = refl
+mover-unlent stop = refl
+mover-unlent set-mark = refl
+mover-unlent reset-mark = refl
+mover-unlent rewind-to-mark = refl
+mover-unlent rewind-to-init = refl
+
+-- what follows from each row that gives none, in the table's order
+module _ {N : Numbers} {c : Call N} {M : Machine N} (p : Passed c M) where
+  rows : AllNone (refusals (asked c (M .state)) M)
+  rows = all-none (refusals (asked c (M .state)) M) (p .none-refuses)
+
+  pub granted : let-in (asked c (M .state) .caller) M ≡ none
+  granted = rows .0
+
+  pub shape : fits (is-lent (asked c (M .state) .caller)) M ≡ true
+  shape = granted-shape (asked c (M .state) .caller) M granted
+
   pub known : unknown (asked c (M .state) .operation) ≡ false
-  pub all-live : any-stale M (handles (asked c (M .state) .operands)) ≡ false
-  pub standing : asked c (M .state) .on-tape && any-plain (asked c (M .state) .operands) ≡ false
+  known = unhit _ _ (rows .1 .0)
+
+  pub all-live : first-amiss M (handles (asked c (M .state) .operands)) ≡ none
+  all-live = rows .1 .1 .0
+
   pub room : would-record (asked c (M .state) .operation) M && eqb (M .state .length) (capacity (M .lent)) ≡ false
+  room = unhit _ _ (rows .1 .1 .1 .1 .0)
+
   pub serial : would-record (asked c (M .state) .operation) M && eqb (M .state .next) last-serial ≡ false
+  serial = unhit _ _ (rows .1 .1 .1 .1 .1 .0)
+
   pub sound-range : all (map (sound (M .lent)) (asked c (M .state) .range)) ≡ true
-  pub short : too-long (asked c (M .state) .room) M ≡ false
+  sound-range = not-false _ (unhit _ _ (rows .1 .1 .1 .1 .1 .1 .0))
 
--- a step is the first refusal that hits, or what the call does with no test hit
-pub by-refusal : {N : Numbers} (P : Answer N × Machine N → Type 0) (c : Call N) (M : Machine N) → ((r : Refusal) → Hit r (refusals (asked c (M .state)) M) → P (refused r, M)) → (Passed c M → P (carried c M)) → P (step c M)
-unfolding step
-by-refusal P c M hit passed =
-    by-unless P (refusals (asked c (M .state)) M) M hit
-    (λ (shape, (known, (all-live, (standing, (room, (serial, (unsound, (short, _)))))))).
-    passed (record { shape = not-false _ shape; known = known; all-live = all-live; standing = standing; room = room; serial = serial; sound-range = not-false _ unsound; short = short }))
+-- what holds of each refusal that a row can give behind rows that give none
+abbrev Each : (Refusal → Type 0) → List (Option Refusal) → Type 0
+Each P [] = Unit {0}
+Each P (o ∷ os) = ((r : Refusal) → o ≡ some r → P r) × (o ≡ none → Each P os)
 
--- refusal 1, which comes before all others
-pub misshapen : {N : Numbers} (c : Call N) (M : Machine N) → fits (asked c (M .state) .arrays) M ≡ false → (refused Misshapen, M) ≡ step c M
+of-first : (P : Refusal → Type 0) (os : List (Option Refusal)) → Each P os → (r : Refusal) → first os ≡ some r → P r
+of-first P [] each r e = not-some (sym e)
+of-first P (none ∷ os) each r e = of-first P os (each .1 refl) r e
+of-first P (some q ∷ os) each r e = each .0 r e
+
+when-gives : (P : Refusal → Type 0) (b : Bool) (q : Refusal) → (b ≡ true → P q) → (r : Refusal) → when b q ≡ some r → P r
+when-gives P true q p r e = subst P (Option·some-injective _ _ e) (p refl)
+when-gives P false q p r e = not-some (sym e)
+
+amiss-gives : {N : Numbers} (P : Refusal → Type 0) (M : Machine N) → ((h : Handle) → P (amiss (M .state) h)) → (hs : List Handle) (r : Refusal) → first-amiss M hs ≡ some r → P r
+amiss-gives P M p [] r = λ e. not-some (sym e)
+amiss-gives P M p (h ∷ hs) r = by-test (λ o. o ≡ some r → P r) (live M h) (λ _. amiss-gives P M p hs r) (λ _ e. subst P (Option·some-injective _ _ e) (p h))
+
+-- the table, a line a refusal: when it is given, and what is to hold of it then
+pub record Gives {N : Numbers} (P : Refusal → Type 0) (q : Asked N) (M : Machine N) : Type 0 where
+  pub misshapen : P Misshapen
+  pub unknown : P UnknownOperation
+  pub not-live : (h : Handle) → P (amiss (M .state) h)
+  pub detached : P Detached
+  pub full : P Full
+  pub spent : P SerialsSpent
+  pub unsound : let-in (q .caller) M ≡ none → first-amiss M (handles (q .operands)) ≡ none → all (map (sound (M .lent)) (q .range)) ≡ false → P UnsoundEdge
+  pub too-long : P ListingTooLong
+
+pub by-table : {N : Numbers} (P : Refusal → Type 0) (c : Call N) (M : Machine N) → Gives P (asked c (M .state)) M → (r : Refusal) → refusal-of c M ≡ some r → P r
+by-table P c M g =
+    let q = asked c (M .state) in
+    of-first P (refusals q M) (
+      when-gives P (not (fits (is-lent (q .caller)) M)) Misshapen (λ _. g .misshapen),
+      λ in-so. (
+        when-gives P (unknown (q .operation)) UnknownOperation (λ _. g .unknown),
+        λ _. (
+          amiss-gives P M (g .not-live) (handles (q .operands)),
+          λ all-live. (
+            when-gives P (q .on-tape && any-plain (q .operands)) Detached (λ _. g .detached),
+            λ _. (
+              when-gives P (would-record (q .operation) M && eqb (M .state .length) (capacity (M .lent))) Full (λ _. g .full),
+              λ _. (
+                when-gives P (would-record (q .operation) M && eqb (M .state .next) last-serial) SerialsSpent (λ _. g .spent),
+                λ _. (
+                  when-gives P (not (all (map (sound (M .lent)) (q .range)))) UnsoundEdge (λ e. g .unsound in-so all-live (not-true _ e)),
+                  λ _.
+                      (when-gives P (too-long (q .room) M) ListingTooLong (λ _. g .too-long), λ _. tt),
+                ),
+              ),
+            ),
+          ),
+        ),
+      ),
+    )
+
+pub is-granted : (x : Admission) (o : Option Refusal) → x ≡ admitted o → x ≡ admission.Granted → o ≡ none
+is-granted x none e f = refl
+is-granted x (some r) e f = let z : _≡_ {A = ℕ} 0 1 = cc in absurd (omega arith)
+
+pub is-refused : (x : Admission) (o : Option Refusal) (r : Refusal) → x ≡ admitted o → x ≡ admission.Refused r → o ≡ some r
+is-refused x none r e f = let z : _≡_ {A = ℕ} 0 1 = cc in absurd (omega arith)
+is-refused x (some q) r e f = let z : q ≡ r = cc in ap some z
+
+-- what the admission refuses, which comes before all others
+pub turned-away : {N : Numbers} (c : Call N) (M : Machine N) (x : Admission) (r : Refusal) → x ≡ admitted (let-in (asked c (M .state) .caller) M) → x ≡ admission.Refused r → (refused r, M) ≡ step c M
 unfolding step
-misshapen c M e = rw e
+turned-away c M x r e f = rw (is-refused x (let-in (asked c (M .state) .caller) M) r e f)
 
 -- a machine that has room for a node
 pub record Ready {N : Numbers} (M : Machine N) : Type 0 where
@@ -77,8 +182,8 @@ pub record Lives (n : ℕ) (ss : List ℕ) (h : Handle) : Type 0 where
   pub serial : h .serial ≡ 0 → ⊥
   pub same : getD ss (h .index) 0 ≡ h .serial
 
-pub lives-told : (n : ℕ) (ss : List ℕ) (h : Handle) → lives n ss h ≡ true → Lives n ss h
-lives-told n ss h e =
+pub lives-parts : (n : ℕ) (ss : List ℕ) (h : Handle) → lives n ss h ≡ true → Lives n ss h
+lives-parts n ss h e =
     let (i, (s, (q, _))) = every (ltb (h .index) n ∷ not (eqb (h .serial) 0) ∷ eqb (getD ss (h .index) 0) (h .serial) ∷ []) e in
     record { below = ltb-true _ _ i; serial = eqb-false _ _ (not-true _ s); same = eqb-true _ _ q }
 
@@ -92,16 +197,12 @@ pub record Edges {N : Numbers} (n k : ℕ) (es : List (Edge N)) : Type 0 where
   pub few : length es ≤ k
   pub below : all (map (λ e. ltb (e .child) n) es) ≡ true
 
-pub or-false : (a b : Bool) → a || b ≡ false → (a ≡ false) × (b ≡ false)
-or-false true b e = (e, absurd (true≢false e))
-or-false false b e = (refl, e)
-
--- of handles none of which is stale the first is live, and of the others none is stale
-pub first-live : {N : Numbers} (M : Machine N) (h : Handle) (hs : List Handle) → any-stale M (h ∷ hs) ≡ false → Lives (M .state .length) (M .lent .serial) h × (any-stale M hs ≡ false)
-first-live M h hs e = let both = or-false (not (live M h)) (any-stale M hs) e in (lives-told _ _ h (not-false (live M h) (both .0)), both .1)
+-- of handles none of which is amiss the first is live, and of the others none is amiss
+pub first-live : {N : Numbers} (M : Machine N) (h : Handle) (hs : List Handle) → first-amiss M (h ∷ hs) ≡ none → Lives (M .state .length) (M .lent .serial) h × (first-amiss M hs ≡ none)
+first-live M h hs = by-test (λ o. o ≡ none → Lives (M .state .length) (M .lent .serial) h × (first-amiss M hs ≡ none)) (live M h) (λ l e. (lives-parts _ _ h l, e)) (λ _ e. not-some e)
 
 module _ {N : Numbers} (M : Machine N) where
-  edge-ok : (o : Operand N) (p : Option (N .Number)) (os : List (Operand N)) (es : List (Edge N)) (k : ℕ) → any-stale M (handles (o ∷ os)) ≡ false → (any-stale M (handles os) ≡ false → Edges (M .state .length) k es) → Edges (M .state .length) (suc k) (edge o p ++ es)
+  edge-ok : (o : Operand N) (p : Option (N .Number)) (os : List (Operand N)) (es : List (Edge N)) (k : ℕ) → first-amiss M (handles (o ∷ os)) ≡ none → (first-amiss M (handles os) ≡ none → Edges (M .state .length) k es) → Edges (M .state .length) (suc k) (edge o p ++ es)
   edge-ok (plain x) p os es k e rest = let r = rest e in record { few = omega arith; below = r .below }
   edge-ok (node h) none os es k e rest = let r = rest (first-live M h (handles os) e .1) in record { few = omega arith; below = r .below }
   edge-ok (node h) (some p) os es k e rest =
@@ -116,7 +217,7 @@ module _ {N : Numbers} (M : Machine N) where
   no-partial (plain x) = refl
   no-partial (node h) = refl
 
-  pub both-ok : (b : Bool) (left right : Operand N) (p q : Option (N .Number)) → (b ≡ true → q ≡ none) → any-stale M (handles (cond b (left ∷ []) (left ∷ right ∷ []))) ≡ false → Edges (M .state .length) 2 (edge left p ++ edge right q)
+  pub both-ok : (b : Bool) (left right : Operand N) (p q : Option (N .Number)) → (b ≡ true → q ≡ none) → first-amiss M (handles (cond b (left ∷ []) (left ∷ right ∷ []))) ≡ none → Edges (M .state .length) most-edges (edge left p ++ edge right q)
   both-ok true left right p q alone e = rw (alone refl, no-partial right) (edge-ok left p [] [] 1 e (λ _. no-edges 1))
   both-ok false left right p q alone e =
       edge-ok left p (right ∷ []) (edge right q) 1 e (λ e′. rw append-nil at (edge-ok right q [] [] 0 e′ (λ _. no-edges 0)))
@@ -131,37 +232,36 @@ alone op l r g = by-one-sided (λ op. apply op l r g .right ≡ none) op refl re
 
 -- ---- what a step leaves
 
--- Nothing but adjoints and the state without its serial, at no greater length and with no handle answered; or one node more.
+-- Nothing but adjoints and the state, at no greater length, with the same serial next and no handle answered; or one
+-- node more.
 -- A call that writes adjoints or nothing is the first of these, so all that is shown from this holds for it as well
 pub data Effect {N : Numbers} (M : Machine N) : Answer N × Machine N → Type 0 where
-  keeps : {number : ℕ} {value : N .Number} {count : ℕ} {length mark : ℕ} {active : Bool} {adjoint : List (N .Number)} → length ≤ M .state .length
-      → Effect
-      M
-      (answer number value none count, machine (record { length = length; mark = mark; active = active; next = M .state .next }) (arrays (M .lent .value) adjoint (M .lent .serial) (M .lent .count) (M .lent .child) (M .lent .partial)))
-  records : (v : N .Number) (es : List (Edge N)) → Ready M → Edges (M .state .length) 2 es → Effect M (recorded v (issued (M .state)), written M v es)
+  keeps : {number : ℕ} {value : N .Number} {count : ℕ} {t : Tape} {adjoint : List (N .Number)} → t .length ≤ M .state .length → t .next ≡ M .state .next
+      → Effect M (answer number value none count, machine t (arrays (M .lent .value) adjoint (M .lent .serial) (M .lent .count) (M .lent .child) (M .lent .partial)))
+  records : (v : N .Number) (es : List (Edge N)) → Ready M → Edges (M .state .length) most-edges es → Effect M (recorded v (issued (M .state)), written M v es)
 
 move-effect : {N : Numbers} (m : Move) (M : Machine N) → M .state .mark ≤ M .state .length → Effect M (carried (move m) M)
-move-effect start M h = keeps zero-le
-move-effect stop M h = keeps (le-refl _)
-move-effect set-mark M h = keeps (le-refl _)
-move-effect reset-mark M h = keeps (le-refl _)
-move-effect rewind-to-mark M h = keeps h
-move-effect rewind-to-init M h = keeps zero-le
+move-effect start M h = keeps zero-le refl
+move-effect stop M h = keeps (le-refl _) refl
+move-effect set-mark M h = keeps (le-refl _) refl
+move-effect reset-mark M h = keeps (le-refl _) refl
+move-effect rewind-to-mark M h = keeps h refl
+move-effect rewind-to-init M h = keeps zero-le refl
 
 carried-effect : {N : Numbers} (c : Call N) (M : Machine N) → Passed c M → Effect M (carried c M)
-carried-effect (move m) M p = move-effect m M (state-fit 65535 (M .state) (p .shape) .mark)
+carried-effect (move m) M p = move-effect m M (state-fit most-nodes (M .state) (rw (mover-unlent m) at (shape p)) .mark)
 carried-effect (operate op left right g) M p =
-    let s = apply op (worth M left) (worth M right) g in
-    by-test (Effect M) (M .state .active) (λ active. records (s .value) (edges left right s) (ready M (p .shape) (rw active at (p .room))) (both-ok M (one-sided op) left right (s .left) (s .right) (alone op (worth M left) (worth M right) g) (p .all-live))) (λ _. keeps (le-refl _))
-carried-effect clear M p = keeps (le-refl _)
-carried-effect (pass p) M _ = keeps (le-refl _)
-carried-effect (value-of x) M p = keeps (le-refl _)
-carried-effect (adjoint-of x) M p = keeps (le-refl _)
-carried-effect (is-live x) M p = keeps (le-refl _)
-carried-effect (list bytes) M p = keeps (le-refl _)
+    let s = apply op (operand-value M left) (operand-value M right) g in
+    by-test (Effect M) (M .state .active) (λ active. records (s .value) (edges left right s) (ready M (shape p) (rw active at (room p))) (both-ok M (one-sided op) left right (s .left) (s .right) (alone op (operand-value M left) (operand-value M right) g) (all-live p))) (λ _. keeps (le-refl _) refl)
+carried-effect clear M p = keeps (le-refl _) refl
+carried-effect (pass p) M _ = keeps (le-refl _) refl
+carried-effect (value-of x) M p = keeps (le-refl _) refl
+carried-effect (adjoint-of x) M p = keeps (le-refl _) refl
+carried-effect (is-live x) M p = keeps (le-refl _) refl
+carried-effect (list bytes) M p = keeps (le-refl _) refl
 
 pub effect : {N : Numbers} (c : Call N) (M : Machine N) → Effect M (step c M)
-effect c M = by-refusal (Effect M) c M (λ r _. keeps (le-refl _)) (carried-effect c M)
+effect c M = by-refusal (Effect M) c M (λ r _. keeps (le-refl _) refl) (carried-effect c M)
 
 -- what every step keeps, every sequence of calls keeps
 pub kept : {N : Numbers} (P : Machine N → Type 0) → ((M : Machine N) (x : Answer N × Machine N) → Effect M x → P M → P (x .1)) → (cs : List (Call N)) (M : Machine N) → P M → P (after cs M)

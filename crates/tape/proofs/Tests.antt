@@ -1,13 +1,15 @@
--- What tests tell: a branch, a list of tests that all hold, and refusal 1's not being given, which bounds tell in turn.
+-- What follows from tests: a branch, a list of tests that all hold, and bounds where refusal 1 is not given; and back,
+-- from bounds to the tests.
 use Prim.Native.Nat.{ℕ, _≤_}
 use mathlib.Core.Path.{_≡_, refl}
-use mathlib.Core.Bool.{Bool, true, false, _||_, cond, and-eq-true-iff}
+use mathlib.Core.Bool.{Bool, true, false, _||_, cond, true≢false, and-eq-true-iff}
 use mathlib.Core.List.{List, [], _∷_, _++_}
 use borrow.Author.Tests.{leb-true, eqb-true, eqb-false, not-true, le-leb, eq-eqb, ne-eqb}
 use lib.ListN.{length}
 use Rattle.tape.specs.Numbers.{Numbers}
-use Rattle.tape.specs.Machine.{Machine, machine, capacity, slot, all, fits, arrays-fit, state-fits}
-use Rattle.tape.specs.declared.state.Tape.{Tape}
+use Rattle.tape.specs.Machine.{Machine, machine, capacity, slot, all, most-nodes}
+use Rattle.tape.specs.Admission.{lengths, fits, arrays-fit, state-fits}
+use Rattle.tape.specs.declared.tape.Tape.{Tape}
 
 pub by-test : {A : Type 0} (P : A → Type 0) (b : Bool) {x y : A} → (b ≡ true → P x) → (b ≡ false → P y) → P (cond b x y)
 by-test P true f g = f refl
@@ -16,6 +18,10 @@ by-test P false f g = g refl
 pub by-or : {P : Type 0} (a b : Bool) → (a ≡ true → P) → (b ≡ true → P) → a || b ≡ true → P
 by-or true b f g e = f refl
 by-or false b f g e = g e
+
+pub or-false : (a b : Bool) → a || b ≡ false → (a ≡ false) × (b ≡ false)
+or-false true b e = (e, absurd (true≢false e))
+or-false false b e = (refl, e)
 
 abbrev pub Every : List Bool → Type 0
 Every [] = Unit {0}
@@ -37,7 +43,7 @@ pub state-fit : (n : ℕ) (t : Tape) → all (state-fits n t) ≡ true → State
 state-fit n t e = of-tests n t (every (state-fits n t) e)
 
 pub record Fit {N : Numbers} (M : Machine N) : Type 0 where
-  pub small : capacity (M .lent) ≤ 65535
+  pub small : capacity (M .lent) ≤ most-nodes
   pub adjoint : length (M .lent .adjoint) ≡ capacity (M .lent)
   pub serial : length (M .lent .serial) ≡ capacity (M .lent)
   pub count : length (M .lent .count) ≡ capacity (M .lent)
@@ -47,7 +53,7 @@ pub record Fit {N : Numbers} (M : Machine N) : Type 0 where
 
 pub fit : {N : Numbers} (M : Machine N) → fits true M ≡ true → Fit M
 fit M e =
-    let (n, (a, (s, (c, (h, (p, state)))))) = every (arrays-fit (M .lent) ++ state-fits (capacity (M .lent)) (M .state)) e in
+    let (n, (a, (s, (c, (h, (p, state)))))) = every (arrays-fit (lengths (M .lent)) ++ state-fits (capacity (M .lent)) (M .state)) e in
     record { small = leb-true _ _ n; adjoint = eqb-true _ _ a; serial = eqb-true _ _ s; count = eqb-true _ _ c; child = eqb-true _ _ h; partial = eqb-true _ _ p; state = of-tests _ _ state }
 
 -- ---- the other way: from bounds to the tests

@@ -1,4 +1,5 @@
--- What a call returns, as document 01 has it: a number, a value, a handle and a count. Number 0 is an answer; the others are the refusals, in the order in which they are tested.
+-- What a call returns, as document 01 has it: a number, a value, a handle and a count. Number 0 is an answer; the
+-- others are the refusals.
 use Prim.Native.Nat.{ℕ}
 use mathlib.Core.Path.{_≡_}
 use mathlib.Core.Option.{Option, none, some}
@@ -7,8 +8,8 @@ use Rattle.tape.specs.Machine.{Arrays, Machine, machine}
 use Rattle.tape.specs.declared.errors.Refusal.{Refusal}
 use Rattle.tape.specs.declared.errors.Refusal.the-variants.{Misshapen, UnknownOperation, NotLive, Detached, Full, SerialsSpent, UnsoundEdge, ListingTooLong}
 use Rattle.tape.specs.declared.node.Handle.{Handle}
-use Rattle.tape.specs.declared.state.Moved.{Moved}
-use Rattle.tape.specs.declared.state.Moved.the-variants.{Done, Refused}
+use Rattle.tape.specs.declared.tape.Moved.{Moved}
+use Rattle.tape.specs.declared.tape.Moved.the-variants.{Done, Refused}
 
 abbrev pub number : Refusal → ℕ
 number Misshapen = 1
@@ -38,12 +39,12 @@ abbrev pub done : {N : Numbers} → Answer N
 done {N} = answer 0 (N .nought) none 0
 
 -- a value that is read
-abbrev pub told : {N : Numbers} → N .Number → Answer N
-told v = answer 0 v none 0
+abbrev pub read-value : {N : Numbers} → N .Number → Answer N
+read-value v = answer 0 v none 0
 
 -- a value that stands on no tape
 abbrev pub detached : {N : Numbers} → N .Number → Answer N
-detached v = told v
+detached v = read-value v
 
 -- edges visited, bytes written, or 1 for a handle that is live and 0 for one that is not
 abbrev pub counted : {N : Numbers} → ℕ → Answer N
@@ -59,6 +60,6 @@ outcome (Done t) A = (done, machine t A)
 outcome (Refused r t) A = (refused r, machine t A)
 
 -- no two of the code's answers say the same, and no two refusals have one number. Proved in proofs/OneToOne.antt
-pub record Told : Type 0 where
+pub record OneToOne : Type 0 where
   pub numbers : (r s : Refusal) → number r ≡ number s → r ≡ s
   pub moves : (x y : Moved) (A : Arrays floats) → outcome x A ≡ outcome y A → x ≡ y

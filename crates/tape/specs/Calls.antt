@@ -1,23 +1,19 @@
--- The calls, and what each does to the machine: `step` carries out one call and `run` a list of them.
--- The refusals stand in one table, in order. The first test that hits refuses the call and leaves the machine as it was.
+-- The calls, and what each does to the machine if it is not refused.
 use Prim.Native.Nat.{ℕ, _+_, _-_}
-use mathlib.Core.Bool.{Bool, true, false, not, _&&_, _||_, cond}
+use mathlib.Core.Bool.{true, false, cond}
 use mathlib.Core.List.{List, [], _∷_, _++_, map}
 use mathlib.Core.Option.{Option, none, some}
-use lib.Dec.{ltb, eqb}
 use lib.ListN.{length, set, drop, replicate}
 use lib.Seq.{sets}
 use Rattle.tape.specs.Numbers.{Numbers}
-use Rattle.tape.specs.Machine.{Arrays, Machine, arrays, machine, capacity, slot, all, fits}
-use Rattle.tape.specs.Handles.{Operand, plain, node, live, worth, gradient, is-live-node, handles, any-plain}
-use Rattle.tape.specs.Operations.{Given, Row, apply, known, used}
-use Rattle.tape.specs.Walk.{Edge, walk, edges-at, indexes, visited, sound}
+use Rattle.tape.specs.Machine.{Arrays, Machine, arrays, machine, slot, with-length, with-mark, with-active, with-next}
+use Rattle.tape.specs.Handles.{Operand, plain, node, operand-value, gradient, is-live-node}
+use Rattle.tape.specs.Operations.{Given, Row, apply}
+use Rattle.tape.specs.Walk.{Edge, walk, edges-at, indexes, visited}
 use Rattle.tape.specs.Listing.{listing}
-use Rattle.tape.specs.Answers.{Answer, refused, done, told, detached, recorded, counted}
-use Rattle.tape.specs.declared.errors.Refusal.{Refusal}
-use Rattle.tape.specs.declared.errors.Refusal.the-variants.{Misshapen, UnknownOperation, NotLive, Detached, Full, SerialsSpent, UnsoundEdge, ListingTooLong}
+use Rattle.tape.specs.Answers.{Answer, done, read-value, detached, recorded, counted}
 use Rattle.tape.specs.declared.node.Handle.{Handle}
-use Rattle.tape.specs.declared.state.Tape.{Tape}
+use Rattle.tape.specs.declared.tape.Tape.{Tape}
 
 pub data Move : Type 0 where
   start stop set-mark reset-mark rewind-to-mark rewind-to-init : Move
@@ -40,12 +36,12 @@ pub data Call (N : Numbers) : Type 0 where
 -- ---- start, stop, marks and rewinds
 
 abbrev pub moved : Move → Tape → Tape
-moved start t = record { length = 0; mark = 0; active = true; next = t .next }
-moved stop t = record { length = t .length; mark = t .mark; active = false; next = t .next }
-moved set-mark t = record { length = t .length; mark = t .length; active = t .active; next = t .next }
-moved reset-mark t = record { length = t .length; mark = 0; active = t .active; next = t .next }
-moved rewind-to-mark t = record { length = t .mark; mark = t .mark; active = t .active; next = t .next }
-moved rewind-to-init t = record { length = 0; mark = 0; active = t .active; next = t .next }
+moved start t = with-active true (with-mark 0 (with-length 0 t))
+moved stop t = with-active false t
+moved set-mark t = with-mark (t .length) t
+moved reset-mark t = with-mark 0 t
+moved rewind-to-mark t = with-length (t .mark) t
+moved rewind-to-init t = with-mark 0 (with-length 0 t)
 
 -- ---- recording
 
@@ -65,9 +61,10 @@ issued t = record { index = t .length; serial = t .next }
 
 -- the state once that node is recorded
 abbrev pub grown : Tape → Tape
-grown t = record { length = t .length + 1; mark = t .mark; active = t .active; next = t .next + 1 }
+grown t = with-next (t .next + 1) (with-length (t .length + 1) t)
 
--- the arrays once the node is written at that index, its adjoint +0.0, its edges from its slot on; edge slots that it does not use keep what they held
+-- the arrays once the node is written at that index, its adjoint +0.0, its edges from its slot on; edge slots that it
+-- does not use keep what they held
 abbrev pub with-node : {N : Numbers} → Handle → Arrays N → N .Number → List (Edge N) → Arrays N
 with-node {N} h A v es =
     arrays
@@ -85,13 +82,15 @@ written M v es = machine (grown (M .state)) (with-node (issued (M .state)) (M .l
 -- ---- clearing and passes
 
 abbrev pub with-adjoints : {N : Numbers} → Machine N → List (N .Number) → Machine N
-with-adjoints M s = machine (M .state) (arrays (M .lent .value) s (M .lent .serial) (M .lent .count) (M .lent .child) (M .lent .partial))
+with-adjoints M s =
+    machine (M .state) (arrays (M .lent .value) s (M .lent .serial) (M .lent .count) (M .lent .child) (M .lent .partial))
 
 -- +0.0 in each live adjoint; those past the length stay
 abbrev pub cleared : {N : Numbers} → Machine N → Machine N
 cleared {N} M = let n = M .state .length in with-adjoints M (replicate n (N .nought) ++ drop n (M .lent .adjoint))
 
--- what a pass does: the adjoint of its root, if it has one, is set to 1.0, and then the nodes from end - 1 down to from are walked
+-- what a pass does: the adjoint of its root, if it has one, is set to 1.0, and then the nodes from end - 1 down to from
+-- are walked
 pub record Plan (N : Numbers) : Type 0 where
   pub root : List (Operand N)
   pub from : ℕ
@@ -122,93 +121,17 @@ seeded {N} (node h ∷ os) s = seeded os (set s (h .index) (N .one))
 abbrev pub walked : {N : Numbers} → Plan N → Machine N → Machine N
 walked P M = with-adjoints M (walk (P .from) (map (edges-at (M .lent)) (range P)) (seeded (P .root) (M .lent .adjoint)))
 
--- ---- refusals
+-- ---- every call
 
--- what a call asks for
-pub record Asked (N : Numbers) : Type 0 where
-  -- is it lent the tape's arrays
-  pub arrays : Bool
-  -- the operation it records, if it does
-  pub operation : Option ℕ
-  -- the operands, root or read argument whose handles have to be live
-  pub operands : List (Operand N)
-  -- do they have to stand on the tape
-  pub on-tape : Bool
-  -- the nodes to be walked
-  pub range : List ℕ
-  -- the bytes lent for a listing, if it is one
-  pub room : Option ℕ
-
-abbrev pub asked : {N : Numbers} → Call N → Tape → Asked N
-asked (move m) t = record { arrays = false; operation = none; operands = []; on-tape = false; range = []; room = none }
-asked (operate op left right g) t = record { arrays = true; operation = some op; operands = used op left right; on-tape = false; range = []; room = none }
-asked clear t = record { arrays = true; operation = none; operands = []; on-tape = false; range = []; room = none }
-asked (pass p) t = record { arrays = true; operation = none; operands = plan p t .root; on-tape = true; range = range (plan p t); room = none }
-asked (value-of x) t = record { arrays = true; operation = none; operands = x ∷ []; on-tape = false; range = []; room = none }
-asked (adjoint-of x) t = record { arrays = true; operation = none; operands = x ∷ []; on-tape = true; range = []; room = none }
-asked (is-live x) t = record { arrays = true; operation = none; operands = []; on-tape = false; range = []; room = none }
-asked (list bytes) t = record { arrays = true; operation = none; operands = []; on-tape = false; range = []; room = some bytes }
-
-abbrev pub unknown : Option ℕ → Bool
-unknown none = false
-unknown (some op) = not (known op)
-
-abbrev pub any-stale : {N : Numbers} → Machine N → List Handle → Bool
-any-stale M [] = false
-any-stale M (h ∷ hs) = not (live M h) || any-stale M hs
-
--- does it record, the tape being active
-abbrev pub would-record : {N : Numbers} → Option ℕ → Machine N → Bool
-would-record none M = false
-would-record (some op) M = M .state .active
-
--- does a listing not fit
-abbrev pub too-long : {N : Numbers} → Option ℕ → Machine N → Bool
-too-long none M = false
-too-long (some bytes) M = ltb bytes (length (listing M))
-
--- the last serial is kept back, so that the next one never passes 64 bits
-abbrev pub last-serial : ℕ
-last-serial = 18446744073709551615
-
-abbrev pub refusals : {N : Numbers} → Asked N → Machine N → List (Refusal × Bool)
-refusals q M =
-    (Misshapen, not (fits (q .arrays) M))
-    ∷ (UnknownOperation, unknown (q .operation))
-    ∷ (NotLive, any-stale M (handles (q .operands)))
-    ∷ (Detached, q .on-tape && any-plain (q .operands))
-    ∷ (Full, would-record (q .operation) M && eqb (M .state .length) (capacity (M .lent)))
-    ∷ (SerialsSpent, would-record (q .operation) M && eqb (M .state .next) last-serial)
-    ∷ (UnsoundEdge, not (all (map (sound (M .lent)) (q .range))))
-    ∷ (ListingTooLong, too-long (q .room) M)
-    ∷ []
-
--- the first test that hits; otherwise what the call does
-abbrev pub unless : {N : Numbers} → List (Refusal × Bool) → Machine N → Answer N × Machine N → Answer N × Machine N
-unless [] M otherwise = otherwise
-unless ((r, hit) ∷ ts) M otherwise = cond hit (refused r, M) (unless ts M otherwise)
-
--- ---- one call, and a list of them
-
--- what a call does that is not refused
+-- what a call that is not refused does
 abbrev pub carried : {N : Numbers} → Call N → Machine N → Answer N × Machine N
 carried (move m) M = (done, machine (moved m (M .state)) (M .lent))
 carried (operate op left right g) M =
-    let s = apply op (worth M left) (worth M right) g in
+    let s = apply op (operand-value M left) (operand-value M right) g in
     cond (M .state .active) (recorded (s .value) (issued (M .state)), written M (s .value) (edges left right s)) (detached (s .value), M)
 carried clear M = (done, cleared M)
 carried (pass p) M = let P = plan p (M .state) in (counted (visited (M .lent) (range P)), walked P M)
-carried (value-of x) M = (told (worth M x), M)
-carried (adjoint-of x) M = (told (gradient M x), M)
+carried (value-of x) M = (read-value (operand-value M x), M)
+carried (adjoint-of x) M = (read-value (gradient M x), M)
 carried (is-live x) M = (counted (cond (is-live-node M x) 1 0), M)
 carried (list bytes) M = (counted (length (listing M)), M)
-
-unfoldable pub step : {N : Numbers} → Call N → Machine N → Answer N × Machine N
-step c M = unless (refusals (asked c (M .state)) M) M (carried c M)
-
-abbrev pub run : {N : Numbers} → List (Call N) → Machine N → List (Answer N) × Machine N
-run [] M = ([], M)
-run (c ∷ cs) M =
-    let one = step c M in
-    let rest = run cs (one .1) in
-    (one .0 ∷ rest .0, rest .1)

@@ -6,17 +6,32 @@ use lib.Dec.{ltb, eqb}
 use lib.ListN.{getD}
 use Rattle.tape.specs.Numbers.{Numbers, floats}
 use Rattle.tape.specs.Machine.{Machine, all}
+use Rattle.tape.specs.declared.errors.Refusal.{Refusal}
+use Rattle.tape.specs.declared.errors.Refusal.the-variants.{NotLive}
 use Rattle.tape.specs.declared.node.Handle.{Handle}
 use Rattle.tape.specs.declared.node.Lookup.{Lookup}
-use Rattle.tape.specs.declared.node.Lookup.the-variants.{Live, NotLive}
+use Rattle.tape.specs.declared.node.Lookup.the-variants as lookup
+use Rattle.tape.specs.declared.node.Usable.{Usable}
+use Rattle.tape.specs.declared.node.Usable.the-variants.{Live, Refused}
 use Rattle.tape.specs.declared.node.Operand as code
+use Rattle.tape.specs.declared.tape.Tape.{Tape}
 
 -- its index is below the length, its serial is not 0, and the serial stored at that index is the same
 abbrev pub lives : ℕ → List ℕ → Handle → Bool
-lives length serials h = all (ltb (h .index) length ∷ not (eqb (h .serial) 0) ∷ eqb (getD serials (h .index) 0) (h .serial) ∷ [])
+lives length serials h =
+    all (ltb (h .index) length ∷ not (eqb (h .serial) 0) ∷ eqb (getD serials (h .index) 0) (h .serial) ∷ [])
 
-abbrev pub looked-up : ℕ → List ℕ → Handle → Lookup
-looked-up length serials h = cond (lives length serials h) Live NotLive
+-- why a handle that is not live is refused
+abbrev pub amiss : Tape → Handle → Refusal
+amiss t h = NotLive
+
+-- what a lookup answers
+abbrev pub looked-up : Tape → List ℕ → Handle → Lookup
+looked-up t serials h = cond (lives (t .length) serials h) lookup.Live lookup.NotLive
+
+-- and a call that needs a live handle
+abbrev pub usable-as : Tape → List ℕ → Handle → Usable
+usable-as t serials h = cond (lives (t .length) serials h) Live (Refused (amiss t h))
 
 abbrev pub live : {N : Numbers} → Machine N → Handle → Bool
 live M h = lives (M .state .length) (M .lent .serial) h
@@ -31,9 +46,9 @@ operand (code.the-variants.Number x) = plain x
 operand (code.the-variants.Node h) = node h
 
 -- a plain number is its value; a handle's value is read from the tape
-abbrev pub worth : {N : Numbers} → Machine N → Operand N → N .Number
-worth M (plain x) = x
-worth {N} M (node h) = getD (M .lent .value) (h .index) (N .blank)
+abbrev pub operand-value : {N : Numbers} → Machine N → Operand N → N .Number
+operand-value M (plain x) = x
+operand-value {N} M (node h) = getD (M .lent .value) (h .index) (N .blank)
 
 -- the adjoint behind a handle; that of a plain number is refused
 abbrev pub gradient : {N : Numbers} → Machine N → Operand N → N .Number

@@ -1,49 +1,17 @@
 -- The listing: the bytes that show a tape, as a function of the machine.
-use Prim.Native.Nat.{ℕ, zero, suc, _+_, _/_, _%_}
-use Prim.Native.Char.{code}
-use Prim.Native.String.{String, [] as no-text, _∷_ as _before_}
+use Prim.Native.Nat.{ℕ}
 use mathlib.Core.Bool.{cond}
 use mathlib.Core.List.{List, [], _∷_, _++_}
-use lib.Dec.{ltb}
 use lib.ListN.{getD}
+use Rattle.text.specs.Numerals.{bytes, hex, decimal}
 use Rattle.tape.specs.Numbers.{Numbers}
 use Rattle.tape.specs.Machine.{Arrays, Machine}
 use Rattle.tape.specs.Walk.{indexes}
-use Rattle.tape.specs.declared.state.Tape.{Tape}
-
--- the bytes of a text in ASCII
-abbrev pub bytes : String → List ℕ
-bytes no-text = []
-bytes (c before text) = code c ∷ bytes text
-
--- ---- numbers as text
-
--- the byte of a digit below 16: 0 to 9, then a to f
-abbrev pub digit : ℕ → ℕ
-digit d = cond (ltb d 10) (48 + d) (87 + d)
-
--- the last k digits of n in base b, the highest first
-abbrev pub digits : ℕ → ℕ → ℕ → List ℕ
-digits b zero n = []
-digits b (suc k) n = digits b k (n / b) ++ (digit (n % b) ∷ [])
-
--- 16 hex digits for the bits of a number
-abbrev pub hex : ℕ → List ℕ
-hex n = digits 16 16 n
-
--- how many decimal digits n has, up to k and one more
-abbrev pub places : ℕ → ℕ → ℕ
-places zero n = 1
-places (suc k) n = cond (ltb n 10) 1 (suc (places k (n / 10)))
-
--- no leading zero; a number of 64 bits has at most 20 digits
-abbrev pub decimal : ℕ → List ℕ
-decimal n = digits 10 (places 19 n) n
-
--- ---- the lines
+use Rattle.tape.specs.declared.tape.Tape.{Tape}
 
 abbrev pub header : Tape → List ℕ
-header t = bytes "nodes=" ++ decimal (t .length) ++ bytes " mark=" ++ decimal (t .mark) ++ bytes " active=" ++ decimal (cond (t .active) 1 0) ++ bytes "\n"
+header t =
+    bytes "nodes=" ++ decimal (t .length) ++ bytes " mark=" ++ decimal (t .mark) ++ bytes " active=" ++ decimal (cond (t .active) 1 0) ++ bytes "\n"
 
 abbrev pub line : {N : Numbers} → Arrays N → ℕ → List ℕ
 line {N} A i =

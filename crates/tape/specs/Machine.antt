@@ -1,11 +1,13 @@
--- The machine: a small state and six lent arrays. The state is the code's own `Tape`: length, mark, active flag, next serial.
+-- The machine: a small state and six lent arrays. The state is the code's own `Tape`: length, mark, active flag, next
+-- serial.
 use Prim.Native.Nat.{ℕ, _*_}
-use mathlib.Core.Bool.{Bool, true, false, not, _&&_, cond}
-use mathlib.Core.List.{List, [], _∷_, _++_}
-use lib.Dec.{leb, eqb}
+use mathlib.Core.Bool.{Bool, true, false, _&&_}
+use mathlib.Core.List.{List, [], _∷_}
 use lib.ListN.{length}
-use Rattle.tape.specs.Numbers.{Numbers}
-use Rattle.tape.specs.declared.state.Tape.{Tape}
+use denote.Ref.{RefT}
+use denote.Triple.Both.{Both}
+use Rattle.tape.specs.Numbers.{Numbers, floats}
+use Rattle.tape.specs.declared.tape.Tape.{Tape}
 
 -- value, adjoint, serial and edge count have an entry for each node; edge child and edge partial have two
 pub record Arrays (N : Numbers) : Type 0 where
@@ -20,7 +22,8 @@ pub record Machine (N : Numbers) : Type 0 where
   pub state : Tape
   pub lent : Arrays N
 
-abbrev pub arrays : {N : Numbers} → List (N .Number) → List (N .Number) → List ℕ → List ℕ → List ℕ → List (N .Number) → Arrays N
+abbrev pub arrays : {N : Numbers} → List (N .Number) → List (N .Number) → List ℕ → List ℕ → List ℕ → List (N .Number)
+    → Arrays N
 arrays v a s c h p = record { value = v; adjoint = a; serial = s; count = c; child = h; partial = p }
 
 abbrev pub machine : {N : Numbers} → Tape → Arrays N → Machine N
@@ -40,30 +43,46 @@ most-edges = 2
 abbrev pub slot : ℕ → ℕ
 slot i = most-edges * i
 
-abbrev pub new-tape : Tape
-new-tape = record { length = 0; mark = 0; active = false; next = 1 }
-
--- ---- refusal 1: what has to fit
-
 abbrev pub all : List Bool → Bool
 all [] = true
 all (b ∷ bs) = b && all bs
 
--- the array lengths fit one n, and n is at most 65,535
-abbrev pub arrays-fit : {N : Numbers} → Arrays N → List Bool
-arrays-fit A =
-    leb (capacity A) most-nodes
-    ∷ eqb (length (A .adjoint)) (capacity A)
-    ∷ eqb (length (A .serial)) (capacity A)
-    ∷ eqb (length (A .count)) (capacity A)
-    ∷ eqb (length (A .child)) (slot (capacity A))
-    ∷ eqb (length (A .partial)) (slot (capacity A))
-    ∷ []
+-- ---- the state
 
--- the length is at most n, the mark at most the length, and the next serial is not 0
-abbrev pub state-fits : ℕ → Tape → List Bool
-state-fits n t = leb (t .length) n ∷ leb (t .mark) (t .length) ∷ not (eqb (t .next) 0) ∷ []
+-- length 0, mark 0, inactive, the first serial 1
+abbrev pub new-tape : Tape
+new-tape = record { length = 0; mark = 0; active = false; next = 1 }
 
--- a call that is lent no tape array tests the state alone, with 65,535 for n
-abbrev pub fits : {N : Numbers} → Bool → Machine N → Bool
-fits lent M = cond lent (all (arrays-fit (M .lent) ++ state-fits (capacity (M .lent)) (M .state))) (all (state-fits most-nodes (M .state)))
+-- a state with one field changed
+abbrev pub with-length : ℕ → Tape → Tape
+with-length n t = record { length = n; mark = t .mark; active = t .active; next = t .next }
+
+abbrev pub with-mark : ℕ → Tape → Tape
+with-mark n t = record { length = t .length; mark = n; active = t .active; next = t .next }
+
+abbrev pub with-active : Bool → Tape → Tape
+with-active b t = record { length = t .length; mark = t .mark; active = b; next = t .next }
+
+abbrev pub with-next : ℕ → Tape → Tape
+with-next n t = record { length = t .length; mark = t .mark; active = t .active; next = n }
+
+-- a state by its length, mark, active flag and next serial; whatever else it has is a new tape's
+abbrev pub state : ℕ → ℕ → Bool → ℕ → Tape
+state length mark active next = with-length length (with-mark mark (with-active active (with-next next new-tape)))
+
+-- ---- what a call is lent, in a promise
+
+abbrev pub Lent : Type 0 → Type 0
+Lent X = Both (RefT (List X)) (RefT (List X))
+
+-- the six arrays as the call finds them
+abbrev pub lent-before : Lent (floats .Number) → Lent (floats .Number) → Lent ℕ → Lent ℕ → Lent ℕ
+    → Lent (floats .Number) → Arrays floats
+lent-before v a s c h p =
+    arrays (v .entry .now) (a .entry .now) (s .entry .now) (c .entry .now) (h .entry .now) (p .entry .now)
+
+-- and as it leaves them
+abbrev pub lent-after : Lent (floats .Number) → Lent (floats .Number) → Lent ℕ → Lent ℕ → Lent ℕ → Lent (floats .Number)
+    → Arrays floats
+lent-after v a s c h p =
+    arrays (v .exit .now) (a .exit .now) (s .exit .now) (c .exit .now) (h .exit .now) (p .exit .now)

@@ -1,4 +1,5 @@
--- What a tape computes with. Everything below is stated over any such numbers, and no law of them is assumed; the tape of document 01 is over `floats`.
+-- What a tape computes with. Everything below is stated over any such numbers, and no law of them is assumed; the tape
+-- of document 01 is over `floats`.
 use Prim.Native.Nat.{ℕ}
 use mathlib.Core.Bool.{Bool}
 use lib.Ieee.{Float, nan, binary64, ofBits, toBits, add, sub, mul, div, lt, le}
@@ -21,7 +22,8 @@ pub record Numbers : Type 1 where
   -- what stands past the end of an array and of the operations table, where the refusals let no call read
   pub blank : Number
 
--- IEEE 754 binary64. `nought` is +0.0, `one` is 1.0, a partial is stored as it is, and any NaN has the bits 7ff8000000000000 (`toBits`)
+-- IEEE 754 binary64. `nought` is +0.0, `one` is 1.0, a partial is stored as it is, and any NaN has the bits
+-- 7ff8000000000000 (`toBits`)
 abbrev pub floats : Numbers
 floats = record {
   Number = Float;

@@ -1,4 +1,5 @@
--- The operations table, with no tape in it: an operation number, the values of its operands and what the host supplied give a value and partials.
+-- The operations table, with no tape in it: an operation number, the values of its operands and what the host supplied
+-- give a value and partials.
 use Prim.Native.Nat.{ℕ}
 use mathlib.Core.Bool.{Bool, _||_, cond}
 use mathlib.Core.List.{List, [], _∷_}
@@ -6,6 +7,41 @@ use mathlib.Core.Option.{Option, none, some}
 use lib.Dec.{ltb, eqb}
 use lib.ListN.{getD}
 use Rattle.tape.specs.Numbers.{Numbers}
+
+-- the operations' numbers, under the names that they have in the code
+abbrev pub LEAF : ℕ
+LEAF = 0
+
+abbrev pub ADD : ℕ
+ADD = 1
+
+abbrev pub SUBTRACT : ℕ
+SUBTRACT = 2
+
+abbrev pub MULTIPLY : ℕ
+MULTIPLY = 3
+
+abbrev pub DIVIDE : ℕ
+DIVIDE = 4
+
+abbrev pub MAX : ℕ
+MAX = 5
+
+abbrev pub MIN : ℕ
+MIN = 6
+
+abbrev pub NEGATE : ℕ
+NEGATE = 7
+
+abbrev pub SUPPLIED-ONE : ℕ
+SUPPLIED-ONE = 8
+
+abbrev pub SUPPLIED-TWO : ℕ
+SUPPLIED-TWO = 9
+
+-- numbers from here to 255 are refused
+abbrev pub UNKNOWN : ℕ
+UNKNOWN = 10
 
 -- what the host supplies for operations 8 and 9
 pub record Given (N : Numbers) : Type 0 where
@@ -49,13 +85,12 @@ apply {N} op l r g =
     let s = getD (rows l r g) op (row (N .blank) none none) in
     row (s .value) (as-stored N (s .left)) (as-stored N (s .right))
 
--- numbers 10 to 255 are refused
 abbrev pub known : ℕ → Bool
-known op = ltb op 10
+known op = ltb op UNKNOWN
 
 -- operations 0, 7 and 8 use the left operand alone
 abbrev pub one-sided : ℕ → Bool
-one-sided op = eqb op 0 || eqb op 7 || eqb op 8
+one-sided op = eqb op LEAF || eqb op NEGATE || eqb op SUPPLIED-ONE
 
 abbrev pub used : {A : Type 0} → ℕ → A → A → List A
 used op left right = cond (one-sided op) (left ∷ []) (left ∷ right ∷ [])

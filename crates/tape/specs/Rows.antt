@@ -1,4 +1,5 @@
--- Worked rows: calls, what they have to answer, and what has to be seen on the tape after them. P1 to P8 are document 01's; the other rows shut out wrong rules that those would let through.
+-- Worked rows: calls, what they have to answer, and what has to be seen on the tape after them. P1 to P8 are document
+-- 01's; the other rows shut out wrong rules that those would let through.
 -- `EveryRow` is proved in proofs/Rows.antt, by computation.
 use Prim.Native.Nat.{ℕ, _+_, _^_}
 use Prim.Native.String.{String}
@@ -8,13 +9,15 @@ use mathlib.Core.List.{List, [], _∷_, _++_}
 use lib.IntN.{pos}
 use lib.Ieee.{Float, nan, inf, binary64, ofInt, neg}
 use lib.ListN.{replicate}
+use Rattle.text.specs.Numerals.{bytes}
 use Rattle.tape.specs.Numbers.{floats}
-use Rattle.tape.specs.Machine.{Arrays, Machine, arrays, machine, slot}
+use Rattle.tape.specs.Machine.{Arrays, Machine, arrays, machine, most-nodes, slot, state}
 use Rattle.tape.specs.Handles.{Operand, plain, node}
-use Rattle.tape.specs.Operations.{Given}
-use Rattle.tape.specs.Listing.{bytes, decimal, hex, header, listing}
-use Rattle.tape.specs.Answers.{Answer, refused, done, told, recorded, counted}
-use Rattle.tape.specs.Calls.{Pass, Call, move, start, set-mark, rewind-to-mark, operate, clear, pass, backward, backward-to-mark, backward-mark-to-start, propagate-to-mark, propagate-mark-to-start, value-of, adjoint-of, is-live, list, run}
+use Rattle.tape.specs.Operations.{Given, LEAF, ADD, MULTIPLY, MAX, MIN, SUPPLIED-ONE, SUPPLIED-TWO}
+use Rattle.tape.specs.Listing.{header, listing}
+use Rattle.tape.specs.Answers.{Answer, refused, done, read-value, recorded, counted}
+use Rattle.tape.specs.Calls.{Pass, Call, move, start, set-mark, rewind-to-mark, operate, clear, pass, backward, backward-to-mark, backward-mark-to-start, propagate-to-mark, propagate-mark-to-start, value-of, adjoint-of, is-live, list}
+use Rattle.tape.specs.Steps.{run}
 use Rattle.tape.specs.Kept.{fresh, after}
 use Rattle.tape.specs.declared.errors.Refusal.the-variants.{Misshapen, NotLive, Detached, UnsoundEdge, ListingTooLong}
 use Rattle.tape.specs.declared.node.Handle.{Handle}
@@ -58,7 +61,8 @@ float k = ofInt binary64 (pos k)
 
 -- arrays for n nodes that hold nothing but sevens, so that what a call writes and what it leaves both show
 abbrev pub sevens : ℕ → Arrays floats
-sevens n = arrays (replicate n (float 7)) (replicate n (float 7)) (replicate n 7) (replicate n 7) (replicate (slot n) 7) (replicate (slot n) (float 7))
+sevens n =
+    arrays (replicate n (float 7)) (replicate n (float 7)) (replicate n 7) (replicate n 7) (replicate (slot n) 7) (replicate (slot n) (float 7))
 
 abbrev pub handle : ℕ → ℕ → Handle
 handle i s = record { index = i; serial = s }
@@ -74,46 +78,52 @@ abbrev pub given : Float → Float → Float → Given floats
 given v p q = record { value = v; left = p; right = q }
 
 abbrev pub leaf : Float → Call floats
-leaf x = operate 0 (plain x) (plain x) (given x x x)
+leaf x = operate LEAF (plain x) (plain x) (given x x x)
 
 abbrev pub binary : ℕ → Operand floats → Operand floats → Call floats
 binary op left right = operate op left right (given (float 0) (float 0) (float 0))
 
 abbrev pub plus : Operand floats → Operand floats → Call floats
-plus = binary 1
+plus = binary ADD
 
 abbrev pub times : Operand floats → Operand floats → Call floats
-times = binary 3
+times = binary MULTIPLY
 
 abbrev pub max : Operand floats → Operand floats → Call floats
-max = binary 5
+max = binary MAX
 
 -- operation 8 with partial p
 abbrev pub weighed : Operand floats → Float → Call floats
-weighed x p = operate 8 x x (given (float 1) p p)
+weighed x p = operate SUPPLIED-ONE x x (given (float 1) p p)
 
 -- operation 9 with partials p and q
 abbrev pub weighed-twice : Operand floats → Operand floats → Float → Float → Call floats
-weighed-twice left right p q = operate 9 left right (given (float 1) p q)
+weighed-twice left right p q = operate SUPPLIED-TWO left right (given (float 1) p q)
 
 -- ---- the rows
 
 -- the listing's four nodes: leaves 3 and 2, their product, the product plus the first leaf, and backward from the last
 abbrev pub four-calls : List (Call floats)
-four-calls = move start ∷ leaf (float 3) ∷ leaf (float 2) ∷ times (node-at 0) (node-at 1) ∷ plus (node-at 2) (node-at 0) ∷ pass (backward (node-at 3)) ∷ []
+four-calls =
+    move start ∷ leaf (float 3) ∷ leaf (float 2) ∷ times (node-at 0) (node-at 1) ∷ plus (node-at 2) (node-at 0)
+    ∷ pass (backward (node-at 3)) ∷ []
 
 abbrev pub four-answers : List (Answer floats)
-four-answers = done ∷ recorded (float 3) (first 0) ∷ recorded (float 2) (first 1) ∷ recorded (float 6) (first 2) ∷ recorded (float 9) (first 3) ∷ counted 4 ∷ []
+four-answers =
+    done ∷ recorded (float 3) (first 0) ∷ recorded (float 2) (first 1) ∷ recorded (float 6) (first 2)
+    ∷ recorded (float 9) (first 3) ∷ counted 4 ∷ []
 
 abbrev pub four-adjoints : Sight
 four-adjoints = adjoints (float 3 ∷ float 3 ∷ float 1 ∷ float 1 ∷ float 7 ∷ [])
 
 abbrev pub four-listing : Sight
-four-listing = lists "nodes=4 mark=0 active=1\nnode=0 val=4008000000000000 adj=4008000000000000\nnode=1 val=4000000000000000 adj=4008000000000000\nnode=2 val=4018000000000000 adj=3ff0000000000000\nnode=3 val=4022000000000000 adj=3ff0000000000000\n"
+four-listing =
+    lists "nodes=4 mark=0 active=1\nnode=0 val=4008000000000000 adj=4008000000000000\nnode=1 val=4000000000000000 adj=4008000000000000\nnode=2 val=4018000000000000 adj=3ff0000000000000\nnode=3 val=4022000000000000 adj=3ff0000000000000\n"
 
 -- further calls on the four nodes, of five that the tape has room for
 abbrev pub on-four : List (Call floats) → List (Answer floats) → List Sight → Row
-on-four calls answers sights = record { before = fresh (sevens 5); calls = four-calls ++ calls; answers = four-answers ++ answers; sights = sights }
+on-four calls answers sights =
+    record { before = fresh (sevens 5); calls = four-calls ++ calls; answers = four-answers ++ answers; sights = sights }
 
 -- P1 without a root, mark 0 walked to start, or mark = length walked from the end: nothing changes, count 0
 abbrev pub P1-to-start : Row
@@ -140,10 +150,12 @@ abbrev pub squared-answers : List (Answer floats)
 squared-answers = done ∷ recorded (float 3) (first 0) ∷ recorded (float 9) (first 1) ∷ counted 2 ∷ []
 
 abbrev pub P3 : Row
-P3 = record { before = fresh (sevens 2); calls = squared; answers = squared-answers; sights = adjoints (float 6 ∷ float 1 ∷ []) ∷ [] }
+P3 =
+    record { before = fresh (sevens 2); calls = squared; answers = squared-answers; sights = adjoints (float 6 ∷ float 1 ∷ []) ∷ [] }
 
 abbrev pub P4 : Row
-P4 = record { before = fresh (sevens 2); calls = squared ++ (pass (backward (node-at 1)) ∷ []); answers = squared-answers ++ (counted 2 ∷ []); sights = adjoints (float 12 ∷ float 1 ∷ []) ∷ [] }
+P4 =
+    record { before = fresh (sevens 2); calls = squared ++ (pass (backward (node-at 1)) ∷ []); answers = squared-answers ++ (counted 2 ∷ []); sights = adjoints (float 12 ∷ float 1 ∷ []) ∷ [] }
 
 -- P5 plain 2 times plain 3, active: a node with no edge
 abbrev pub P5 : Row
@@ -160,7 +172,8 @@ P6 = record {
   before = fresh (sevens 3);
   calls = move start ∷ leaf (float 1) ∷ leaf (float 1) ∷ max (node-at 0) (node-at 1) ∷ [];
   answers = done ∷ recorded (float 1) (first 0) ∷ recorded (float 1) (first 1) ∷ recorded (float 1) (first 2) ∷ [];
-  sights = edge-counts (0 ∷ 0 ∷ 2 ∷ []) ∷ partials (float 7 ∷ float 7 ∷ float 7 ∷ float 7 ∷ float 0 ∷ float 0 ∷ []) ∷ [];
+  sights =
+      edge-counts (0 ∷ 0 ∷ 2 ∷ []) ∷ partials (float 7 ∷ float 7 ∷ float 7 ∷ float 7 ∷ float 0 ∷ float 0 ∷ []) ∷ [];
 }
 
 -- a pass, with how many edges it visits, on x and x*x, passed back once before, then the mark, x*x*x, and x*x*x + x
@@ -168,13 +181,15 @@ abbrev pub marked : Pass floats → ℕ → List Sight → Row
 marked p edges sights = record {
   before = fresh (sevens 4);
   calls = squared ++ (move set-mark ∷ times (node-at 1) (node-at 0) ∷ plus (node-at 2) (node-at 0) ∷ pass p ∷ []);
-  answers = squared-answers ++ (done ∷ recorded (float 27) (first 2) ∷ recorded (float 30) (first 3) ∷ counted edges ∷ []);
+  answers =
+      squared-answers ++ (done ∷ recorded (float 27) (first 2) ∷ recorded (float 30) (first 3) ∷ counted edges ∷ []);
   sights = sights;
 }
 
 -- P7 mark form to start with a root at or past the mark: root adjoint 1, its edges not walked
 abbrev pub P7-at-the-mark : Row
-P7-at-the-mark = marked (backward-mark-to-start (node-at 2)) 2 (adjoints (float 12 ∷ float 1 ∷ float 1 ∷ float 0 ∷ []) ∷ [])
+P7-at-the-mark =
+    marked (backward-mark-to-start (node-at 2)) 2 (adjoints (float 12 ∷ float 1 ∷ float 1 ∷ float 0 ∷ []) ∷ [])
 
 abbrev pub P7-past-it : Row
 P7-past-it = marked (backward-mark-to-start (node-at 3)) 2 (adjoints (float 12 ∷ float 1 ∷ float 0 ∷ float 1 ∷ []) ∷ [])
@@ -186,26 +201,36 @@ P8 =
     let new = node (handle 1 3) in
     record {
       before = fresh (sevens 2);
-      calls = move start ∷ leaf (float 3) ∷ move set-mark ∷ plus (node-at 0) (node-at 0) ∷ pass (backward old) ∷ is-live old ∷ move rewind-to-mark ∷ leaf (float 2)
-          ∷ adjoint-of new ∷ plus old (node-at 0) ∷ pass (backward old) ∷ value-of old ∷ adjoint-of old ∷ is-live old ∷ is-live new ∷ [];
-      answers = done ∷ recorded (float 3) (first 0) ∷ done ∷ recorded (float 6) (handle 1 2) ∷ counted 2 ∷ counted 1 ∷ done ∷ recorded (float 2) (handle 1 3)
-          ∷ told (float 0) ∷ refused NotLive ∷ refused NotLive ∷ refused NotLive ∷ refused NotLive ∷ counted 0 ∷ counted 1 ∷ [];
+      calls =
+          move start ∷ leaf (float 3) ∷ move set-mark ∷ plus (node-at 0) (node-at 0) ∷ pass (backward old) ∷ is-live old
+          ∷ move rewind-to-mark ∷ leaf (float 2)
+          ∷ adjoint-of new ∷ plus old (node-at 0) ∷ pass (backward old) ∷ value-of old ∷ adjoint-of old ∷ is-live old
+          ∷ is-live new ∷ [];
+      answers =
+          done ∷ recorded (float 3) (first 0) ∷ done ∷ recorded (float 6) (handle 1 2) ∷ counted 2 ∷ counted 1 ∷ done
+          ∷ recorded (float 2) (handle 1 3)
+          ∷ read-value (float 0) ∷ refused NotLive ∷ refused NotLive ∷ refused NotLive ∷ refused NotLive ∷ counted 0
+          ∷ counted 1 ∷ [];
       sights = adjoints (float 2 ∷ float 0 ∷ []) ∷ [];
     }
 
 -- a root in the middle: what stands above it is not walked
 abbrev pub in-the-middle : Row
-in-the-middle = on-four (pass (backward (node-at 2)) ∷ []) (counted 2 ∷ []) (adjoints (float 5 ∷ float 6 ∷ float 1 ∷ float 1 ∷ float 7 ∷ []) ∷ [])
+in-the-middle =
+    on-four (pass (backward (node-at 2)) ∷ []) (counted 2 ∷ []) (adjoints (float 5 ∷ float 6 ∷ float 1 ∷ float 1 ∷ float 7 ∷ []) ∷ [])
 
 -- the mark forms with a root elsewhere: the same range, wherever the root lies
 abbrev pub start-from-below : Row
-start-from-below = marked (backward-mark-to-start (node-at 0)) 2 (adjoints (float 7 ∷ float 1 ∷ float 0 ∷ float 0 ∷ []) ∷ [])
+start-from-below =
+    marked (backward-mark-to-start (node-at 0)) 2 (adjoints (float 7 ∷ float 1 ∷ float 0 ∷ float 0 ∷ []) ∷ [])
 
 abbrev pub mark-from-the-end : Row
-mark-from-the-end = marked (backward-to-mark (node-at 3)) 4 (adjoints (float 16 ∷ float 4 ∷ float 1 ∷ float 1 ∷ []) ∷ [])
+mark-from-the-end =
+    marked (backward-to-mark (node-at 3)) 4 (adjoints (float 16 ∷ float 4 ∷ float 1 ∷ float 1 ∷ []) ∷ [])
 
 abbrev pub mark-from-between : Row
-mark-from-between = marked (backward-to-mark (node-at 2)) 4 (adjoints (float 15 ∷ float 4 ∷ float 1 ∷ float 0 ∷ []) ∷ [])
+mark-from-between =
+    marked (backward-to-mark (node-at 2)) 4 (adjoints (float 15 ∷ float 4 ∷ float 1 ∷ float 0 ∷ []) ∷ [])
 
 abbrev pub mark-from-below : Row
 mark-from-below = marked (backward-to-mark (node-at 0)) 4 (adjoints (float 1 ∷ float 1 ∷ float 0 ∷ float 0 ∷ []) ∷ [])
@@ -214,8 +239,11 @@ mark-from-below = marked (backward-to-mark (node-at 0)) 4 (adjoints (float 1 ∷
 abbrev pub zero-adjoint : Row
 zero-adjoint = record {
   before = fresh (sevens 3);
-  calls = move start ∷ leaf (float 3) ∷ weighed (node-at 0) (inf false) ∷ leaf (float 2) ∷ pass (backward (node-at 2)) ∷ [];
-  answers = done ∷ recorded (float 3) (first 0) ∷ recorded (float 1) (first 1) ∷ recorded (float 2) (first 2) ∷ counted 1 ∷ [];
+  calls =
+      move start ∷ leaf (float 3) ∷ weighed (node-at 0) (inf false) ∷ leaf (float 2) ∷ pass (backward (node-at 2)) ∷ [];
+  answers =
+      done ∷ recorded (float 3) (first 0) ∷ recorded (float 1) (first 1) ∷ recorded (float 2) (first 2) ∷ counted 1
+      ∷ [];
   sights = adjoints (nan ∷ float 0 ∷ float 1 ∷ []) ∷ [];
 }
 
@@ -223,8 +251,12 @@ zero-adjoint = record {
 abbrev pub left-first : Row
 left-first = record {
   before = fresh (sevens 4);
-  calls = move start ∷ leaf (float 3) ∷ weighed-twice (node-at 0) (node-at 0) (float 1) (neg (float (2 ^ 53))) ∷ weighed (node-at 0) (float (2 ^ 53)) ∷ plus (node-at 1) (node-at 2) ∷ pass (backward (node-at 3)) ∷ [];
-  answers = done ∷ recorded (float 3) (first 0) ∷ recorded (float 1) (first 1) ∷ recorded (float 1) (first 2) ∷ recorded (float 2) (first 3) ∷ counted 5 ∷ [];
+  calls =
+      move start ∷ leaf (float 3) ∷ weighed-twice (node-at 0) (node-at 0) (float 1) (neg (float (2 ^ 53)))
+      ∷ weighed (node-at 0) (float (2 ^ 53)) ∷ plus (node-at 1) (node-at 2) ∷ pass (backward (node-at 3)) ∷ [];
+  answers =
+      done ∷ recorded (float 3) (first 0) ∷ recorded (float 1) (first 1) ∷ recorded (float 1) (first 2)
+      ∷ recorded (float 2) (first 3) ∷ counted 5 ∷ [];
   sights = adjoints (float 0 ∷ float 1 ∷ float 1 ∷ float 1 ∷ []) ∷ [];
 }
 
@@ -238,23 +270,30 @@ plain-numbers =
     let x = plain (float 5) in
     on-four
     (value-of x ∷ is-live x ∷ adjoint-of x ∷ pass (backward x) ∷ pass (backward-to-mark x) ∷ pass (backward-mark-to-start x) ∷ value-of (node-at 2) ∷ adjoint-of (node-at 1) ∷ [])
-    (told (float 5) ∷ counted 0 ∷ refused Detached ∷ refused Detached ∷ refused Detached ∷ refused Detached ∷ told (float 6) ∷ told (float 3) ∷ [])
+    (read-value (float 5) ∷ counted 0 ∷ refused Detached ∷ refused Detached ∷ refused Detached ∷ refused Detached ∷ read-value (float 6) ∷ read-value (float 3) ∷ [])
     (four-adjoints ∷ [])
 
 -- a node that is its own child is refused 7 before the root's adjoint is set; a walk that does not reach it is not
 abbrev pub own-child : Row
 own-child = record {
-  before = machine (record { length = 3; mark = 1; active = false; next = 8 }) (arrays (replicate 3 (float 7)) (replicate 3 (float 7)) (7 ∷ 7 ∷ 7 ∷ []) (0 ∷ 1 ∷ 1 ∷ []) (replicate 4 1 ++ (0 ∷ 7 ∷ [])) (replicate 6 (float 1)));
-  calls = pass (backward (node (handle 2 7))) ∷ pass (backward-to-mark (node (handle 0 7))) ∷ pass propagate-to-mark ∷ pass (backward-mark-to-start (node (handle 2 7))) ∷ [];
+  before =
+      machine (state 3 1 false 8) (arrays (replicate 3 (float 7)) (replicate 3 (float 7)) (7 ∷ 7 ∷ 7 ∷ []) (0 ∷ 1 ∷ 1 ∷ []) (replicate 4 1 ++ (0 ∷ 7 ∷ [])) (replicate 6 (float 1)));
+  calls =
+      pass (backward (node (handle 2 7))) ∷ pass (backward-to-mark (node (handle 0 7))) ∷ pass propagate-to-mark
+      ∷ pass (backward-mark-to-start (node (handle 2 7))) ∷ [];
   answers = refused UnsoundEdge ∷ refused UnsoundEdge ∷ refused UnsoundEdge ∷ counted 0 ∷ [];
   sights = adjoints (float 7 ∷ float 7 ∷ float 1 ∷ []) ∷ [];
 }
 
--- three edges are refused 7, after 3 and 4 for the root, and not where the walk does not reach them
+-- three edges are refused 7, but after 3 for a root that is not live, and not where the walk does not reach them; a root
+-- that is a number is refused 4
 abbrev pub three-edges : Row
 three-edges = record {
-  before = machine (record { length = 2; mark = 0; active = false; next = 8 }) (arrays (replicate 2 (float 7)) (replicate 2 (float 7)) (7 ∷ 7 ∷ []) (0 ∷ 3 ∷ []) (replicate 4 0) (replicate 4 (float 1)));
-  calls = pass (backward (node (handle 1 7))) ∷ pass (backward (node (handle 1 6))) ∷ pass (backward (plain (float 1))) ∷ pass (backward (node (handle 0 7))) ∷ [];
+  before =
+      machine (state 2 0 false 8) (arrays (replicate 2 (float 7)) (replicate 2 (float 7)) (7 ∷ 7 ∷ []) (0 ∷ 3 ∷ []) (replicate 4 0) (replicate 4 (float 1)));
+  calls =
+      pass (backward (node (handle 1 7))) ∷ pass (backward (node (handle 1 6))) ∷ pass (backward (plain (float 1)))
+      ∷ pass (backward (node (handle 0 7))) ∷ [];
   answers = refused UnsoundEdge ∷ refused NotLive ∷ refused Detached ∷ counted 0 ∷ [];
   sights = adjoints (float 1 ∷ float 7 ∷ []) ∷ [];
 }
@@ -262,15 +301,18 @@ three-edges = record {
 -- a mark over the length: every call is refused 1, before anything else
 abbrev pub mark-over-length : Row
 mark-over-length = record {
-  before = machine (record { length = 1; mark = 2; active = true; next = 8 }) (sevens 2);
-  calls = move start ∷ times (node-at 0) (node-at 0) ∷ clear ∷ pass (backward (node-at 0)) ∷ pass propagate-to-mark ∷ value-of (node-at 0) ∷ adjoint-of (plain (float 1)) ∷ is-live (node-at 0) ∷ list 0 ∷ [];
+  before = machine (state 1 2 true 8) (sevens 2);
+  calls =
+      move start ∷ times (node-at 0) (node-at 0) ∷ clear ∷ pass (backward (node-at 0)) ∷ pass propagate-to-mark
+      ∷ value-of (node-at 0) ∷ adjoint-of (plain (float 1)) ∷ is-live (node-at 0) ∷ list 0 ∷ [];
   answers = replicate 9 (refused Misshapen);
   sights = adjoints (float 7 ∷ float 7 ∷ []) ∷ [];
 }
 
 -- an empty tape has a header alone
 abbrev pub listed-empty : Row
-listed-empty = record { before = fresh (sevens 0); calls = move start ∷ list 24 ∷ []; answers = done ∷ counted 24 ∷ []; sights = lists "nodes=0 mark=0 active=1\n" ∷ [] }
+listed-empty =
+    record { before = fresh (sevens 0); calls = move start ∷ list 24 ∷ []; answers = done ∷ counted 24 ∷ []; sights = lists "nodes=0 mark=0 active=1\n" ∷ [] }
 
 -- the sign of a zero shows
 abbrev pub listed-zero : Row
@@ -293,17 +335,32 @@ listed-nan = record {
 abbrev pub rows : List Row
 rows =
     P1-to-start ∷ P1-to-mark ∷ P2 ∷ P3 ∷ P4 ∷ P5 ∷ P6 ∷ P7-at-the-mark ∷ P7-past-it ∷ P8
-    ∷ in-the-middle ∷ start-from-below ∷ mark-from-the-end ∷ mark-from-between ∷ mark-from-below ∷ zero-adjoint ∷ left-first
-    ∷ clearing ∷ plain-numbers ∷ own-child ∷ three-edges ∷ mark-over-length ∷ listed-empty ∷ listed-zero ∷ listed-nan ∷ []
+    ∷ in-the-middle ∷ start-from-below ∷ mark-from-the-end ∷ mark-from-between ∷ mark-from-below ∷ zero-adjoint
+    ∷ left-first
+    ∷ clearing ∷ plain-numbers ∷ own-child ∷ three-edges ∷ mark-over-length ∷ listed-empty ∷ listed-zero ∷ listed-nan
+    ∷ []
 
 abbrev pub EveryRow : Type 0
 EveryRow = All rows
 
--- the listing's numbers, where a line of the rows has too few digits to tell. Proved in proofs/Rows.antt
+-- max and min of leaves l and r, of value v: neither is the greater, so both partials are 0
+abbrev pub chosen : ℕ → Float → Float → Float → Row
+chosen op l r v = record {
+  before = fresh (sevens 3);
+  calls = move start ∷ leaf l ∷ leaf r ∷ binary op (node-at 0) (node-at 1) ∷ [];
+  answers = done ∷ recorded l (first 0) ∷ recorded r (first 1) ∷ recorded v (first 2) ∷ [];
+  sights = partials (float 7 ∷ float 7 ∷ float 7 ∷ float 7 ∷ float 0 ∷ float 0 ∷ []) ∷ [];
+}
+
+-- where the Rust departs from the table, so that no run beside it compares the value: zeros of unlike sign, and a NaN
+-- on the right. Proved in proofs/Rows.antt
+abbrev pub EveryChoice : Type 0
+EveryChoice =
+    Holds (chosen MAX (neg (float 0)) (float 0) (neg (float 0)))
+    × Holds (chosen MIN (float 0) (neg (float 0)) (float 0))
+    × Holds (chosen MAX (float 1) nan nan)
+    × Holds (chosen MIN (float 1) nan nan)
+
+-- the header's numbers, where a listing of the rows has too few digits to tell. Proved in proofs/Rows.antt
 abbrev pub EveryText : Type 0
-EveryText =
-    (header (record { length = 65535; mark = 10; active = false; next = 1 }) ≡ bytes "nodes=65535 mark=10 active=0\n")
-    × (decimal 0 ≡ bytes "0")
-    × (decimal 100 ≡ bytes "100")
-    × (decimal 18446744073709551615 ≡ bytes "18446744073709551615")
-    × (hex 0x0123_4567_89ab_cdef ≡ bytes "0123456789abcdef")
+EveryText = header (state most-nodes 10 false 1) ≡ bytes "nodes=65535 mark=10 active=0\n"

@@ -1,4 +1,5 @@
--- The chain rule, over any numbers: what a walk does to the adjoints, and how the nodes that it walks are read off the arrays.
+-- The chain rule, over any numbers: what a walk does to the adjoints, and how the nodes that it walks are read off the
+-- arrays.
 use Prim.Native.Nat.{ℕ, zero, suc, _+_}
 use mathlib.Core.Bool.{Bool, _&&_}
 use mathlib.Core.List.{List, [], _∷_, map}
@@ -14,7 +15,8 @@ pub record Edge (N : Numbers) : Type 0 where
 -- a node of adjoint a, edge by edge: child adjoint = child adjoint + (partial * node adjoint)
 abbrev pub push : {N : Numbers} → N .Number → List (Edge N) → List (N .Number) → List (N .Number)
 push a [] adjoints = adjoints
-push {N} a (e ∷ es) adjoints = push a es (set adjoints (e .child) (N .plus (getD adjoints (e .child) (N .blank)) (N .times (e .weight) a)))
+push {N} a (e ∷ es) adjoints =
+    push a es (set adjoints (e .child) (N .plus (getD adjoints (e .child) (N .blank)) (N .times (e .weight) a)))
 
 -- some nodes, each given by its edges, that stand at i, i + 1 and so on: from the highest index down
 abbrev pub walk : {N : Numbers} → ℕ → List (List (Edge N)) → List (N .Number) → List (N .Number)
@@ -28,7 +30,8 @@ walk {N} i (es ∷ above) adjoints =
 -- k edges, from a slot on
 abbrev pub edges-from : {N : Numbers} → List ℕ → List (N .Number) → ℕ → ℕ → List (Edge N)
 edges-from children partials s zero = []
-edges-from {N} children partials s (suc k) = record { child = getD children s 0; weight = getD partials s (N .blank) } ∷ edges-from children partials (suc s) k
+edges-from {N} children partials s (suc k) =
+    record { child = getD children s 0; weight = getD partials s (N .blank) } ∷ edges-from children partials (suc s) k
 
 -- the edges that node i counts
 abbrev pub edges-at : {N : Numbers} → Arrays N → ℕ → List (Edge N)
@@ -47,6 +50,6 @@ sum (k ∷ ks) = k + sum ks
 abbrev pub visited : {N : Numbers} → Arrays N → List ℕ → ℕ
 visited A range = sum (map (λ i. getD (A .count) i 0) range)
 
--- refusal 7 asks of node i: at most two edges, and each child that they count below i
+-- what refusal 7 asks of node i: at most two edges, and the child of each below i
 abbrev pub sound : {N : Numbers} → Arrays N → ℕ → Bool
 sound A i = leb (getD (A .count) i 0) most-edges && all (map (λ e. ltb (e .child) i) (edges-at A i))

@@ -1,6 +1,8 @@
 // Handles to nodes, and what a caller carries in place of the Rust's Dual: a plain number or a handle.
+use crate::errors::Refusal;
+use crate::tape::Tape;
 ghost use mathlib.Core.Path.{_≡_};
-ghost use Rattle.tape.specs.Handles.{looked-up};
+ghost use Rattle.tape.specs.Handles.{lives, looked-up, usable-as};
 
 // How many nodes a tape has room for, so that a child's index fits 16 bits.
 pub const MOST_NODES: usize = 65_535;
@@ -25,25 +27,53 @@ pub enum Lookup {
     NotLive,
 }
 
+// Whether a call may use a handle, or why it is refused.
+pub enum Usable {
+    Live,
+    Refused(Refusal),
+}
+
 impl Handle {
-    // Whether the handle is live on a tape of this length with these serials.
-    pub fn lookup(self, length: usize, serial: &[u64]) -> Lookup
-        ensures { λ x. ⌜ x ≡ looked-up length (now (serial .entry)) self ⌝ }
+    // A handle that is never live: no node has serial 0.
+    pub const NEVER_LIVE: Handle = Handle {
+        index: 0,
+        serial: 0,
+    };
+
+    // Whether the handle is live on a tape with these serials.
+    pub fn lookup(self, tape: Tape, serial: &[u64]) -> Lookup
+        ensures { λ x. ⌜ x ≡ looked-up tape (now (serial .entry)) self ⌝ }
     {
-        let index = self.index;
-        if length <= index {
-            return Lookup::NotLive;
-        }
-        if self.serial == 0 {
-            return Lookup::NotLive;
-        }
-        if serial.len() <= index {
-            return Lookup::NotLive;
-        }
-        let stored = serial[index];
-        if stored == self.serial {
+        if self.lives(tape.length, serial) {
             return Lookup::Live;
         }
         Lookup::NotLive
+    }
+
+    // The same for a call that needs a live one: what is not live is refused, in this one place.
+    pub fn usable(self, tape: Tape, serial: &[u64]) -> Usable
+        ensures { λ x. ⌜ x ≡ usable-as tape (now (serial .entry)) self ⌝ }
+    {
+        match self.lookup(tape, serial) {
+            Lookup::Live => Usable::Live,
+            Lookup::NotLive => Usable::Refused(Refusal::NotLive),
+        }
+    }
+
+    fn lives(self, length: usize, serial: &[u64]) -> bool
+        ensures { λ x. ⌜ x ≡ lives length (now (serial .entry)) self ⌝ }
+    {
+        let index = self.index;
+        if length <= index {
+            return false;
+        }
+        if self.serial == 0 {
+            return false;
+        }
+        if serial.len() <= index {
+            return false;
+        }
+        let stored = serial[index];
+        stored == self.serial
     }
 }

@@ -1,4 +1,5 @@
-// Document 01's worked example by the public calls on real arrays: how many edges the pass visited, how many bytes the listing has, and the listing, which is document 01's text byte for byte.
+// Document 01's worked example by the public calls on real arrays: how many edges the pass visited, how many bytes the
+// listing has, and the listing, which is document 01's text byte for byte.
 mod session;
 
 fn main() {

@@ -1,6 +1,9 @@
 // Leaves 3 and 2, their product, the product plus the first leaf, and backward from the last.
 use dual::Passed;
+use expr::ADD;
+use expr::MULTIPLY;
 use expr::Recorded;
+use expr::Supplied;
 use libc::STDOUT_FILENO;
 use listing::Listed;
 use tape::Handle;
@@ -14,12 +17,6 @@ pub struct Noted {
     pub tape: Tape,
     pub handle: Handle,
 }
-
-// Stands where no node was recorded: a handle with serial 0 is never live.
-const NO_HANDLE: Handle = Handle {
-    index: 0,
-    serial: 0,
-};
 
 // The two leaves: the first one's handle, and the second with the state.
 pub struct Leaves {
@@ -132,7 +129,7 @@ fn multiplied(
 ) -> Noted {
     let tape = right.tape;
     let handle = right.handle;
-    node_of(expr::operators::mul(
+    node_of(expr::recording::record(
         tape,
         value,
         adjoint,
@@ -140,8 +137,10 @@ fn multiplied(
         count,
         child,
         partial,
+        MULTIPLY,
         Operand::Node(left),
         Operand::Node(handle),
+        Supplied::NONE,
     ))
 }
 
@@ -157,7 +156,7 @@ fn added(
 ) -> Noted {
     let tape = left.tape;
     let handle = left.handle;
-    node_of(expr::operators::add(
+    node_of(expr::recording::record(
         tape,
         value,
         adjoint,
@@ -165,8 +164,10 @@ fn added(
         count,
         child,
         partial,
+        ADD,
         Operand::Node(handle),
         Operand::Node(right),
+        Supplied::NONE,
     ))
 }
 
@@ -239,13 +240,13 @@ fn node_of(answer: Recorded) -> Noted {
         Recorded::Node(_, handle, tape) => Noted { tape, handle },
         Recorded::Detached(_, tape) => Noted {
             tape,
-            handle: NO_HANDLE,
+            handle: Handle::NEVER_LIVE,
         },
         Recorded::Refused(refusal, tape) => {
             refused(refusal);
             Noted {
                 tape,
-                handle: NO_HANDLE,
+                handle: Handle::NEVER_LIVE,
             }
         }
     }

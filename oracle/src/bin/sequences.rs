@@ -1,12 +1,14 @@
-//! Prints seeded sequences of calls on the f64 tape, as docs/REPLAY.md has them: `sequences SEED COUNT`.
+//! Prints seeded sequences of calls on the f64 tape, as docs/REPLAY.md has them: `sequences SEED COUNT`, and
+//! `sequences SEED COUNT supplied` with operations that the port is supplied among them.
 
 use std::io::{self, BufWriter, Write};
 use std::process::exit;
 
 use oracle::ad::tape::Tape;
 use oracle::draw::{letters, Temper};
-use oracle::operations::{kinds, Kind};
+use oracle::operations::{kinds_of, Kind};
 use oracle::random::Random;
+use oracle::request::Request;
 use oracle::session::{
     Given, Move, Pass, Session, RESET_MARK, REWIND_TO_INIT, REWIND_TO_MARK, SET_MARK, START, STOP,
 };
@@ -60,7 +62,7 @@ impl Draft<'_> {
 
     fn record(&mut self) {
         let kind = &self.kinds[self.random.below(self.kinds.len() as u64) as usize];
-        let operands = kind.forms[0].letters.len();
+        let operands = kind.operands();
         let mut given: Vec<Given> = Vec::new();
         for _ in 0..operands {
             let operand = self.operand(given.first().copied());
@@ -165,14 +167,13 @@ fn sequence(random: &mut Random, kinds: &[Kind]) -> Session {
 }
 
 /// `count` sequences, without those in which max or min departs, whose values flow on.
-fn print_all(seed: u64, count: u64) -> io::Result<()> {
+fn print_all(kinds: &[Kind], seed: u64, count: u64) -> io::Result<()> {
     let mut out = BufWriter::with_capacity(1 << 16, io::stdout().lock());
     let mut random = Random::new(seed);
-    let kinds = kinds();
     let mut left_out = 0;
     let mut printed = 0;
     while printed < count {
-        let session = sequence(&mut random, &kinds);
+        let session = sequence(&mut random, kinds);
         if session.departed {
             left_out += 1;
         } else {
@@ -185,14 +186,12 @@ fn print_all(seed: u64, count: u64) -> io::Result<()> {
 }
 
 fn usage() -> ! {
-    eprintln!("usage: sequences SEED COUNT, whole numbers");
+    eprintln!("usage: sequences SEED COUNT [supplied], SEED and COUNT whole numbers");
     exit(2)
 }
 
 fn main() -> io::Result<()> {
-    let numbers: Option<Vec<u64>> = std::env::args().skip(1).map(|a| a.parse().ok()).collect();
-    match numbers.as_deref() {
-        Some(&[seed, count]) => print_all(seed, count),
-        _ => usage(),
-    }
+    let request = Request::read(&["supplied"]).unwrap_or_else(|| usage());
+    let kinds = kinds_of(request.asks("supplied"));
+    print_all(&kinds, request.seed, request.count)
 }

@@ -3,14 +3,16 @@
 //! session has the most nodes and revolutions.
 //! `sessions SEED COUNT control` prints sessions that have to be told as different: those in which
 //! the long tape comes out otherwise with the revolutions in the order of recording, with that
-//! tape's digests at the end.
+//! tape's digests at the end. With `supplied` before that the sessions are short and have operations
+//! among theirs that the port is supplied.
 
 use std::io::{self, BufWriter, Write};
 use std::process::exit;
 
 use oracle::draw::{letters, Temper};
-use oracle::operations::{kinds, Kind};
+use oracle::operations::{kinds_of, Kind};
 use oracle::random::Random;
+use oracle::request::Request;
 use oracle::session::{departs, Digests, Given, Pass, Session, REWIND_TO_MARK, SET_MARK, START};
 
 /// In a calm session no value or partial is as large as this, so that sums stay finite and go on to
@@ -50,18 +52,26 @@ struct Turn {
     root: usize,
 }
 
-/// How many nodes and revolutions a session has: as it is drawn, or the most of each.
+/// How many nodes and revolutions a session has: as it is drawn, the most of each, or a tenth of the revolutions.
 #[derive(Clone, Copy, PartialEq, Eq)]
 enum Size {
     Drawn,
     Most,
+    Short,
 }
 
 impl Size {
     fn between(self, least: u64, most: u64, random: &mut Random) -> u64 {
         match self {
-            Self::Drawn => least + random.below(most - least + 1),
+            Self::Drawn | Self::Short => least + random.below(most - least + 1),
             Self::Most => most,
+        }
+    }
+
+    fn revolutions(self, random: &mut Random) -> u64 {
+        match self {
+            Self::Short => self.between(20, 60, random),
+            _ => self.between(200, 600, random),
         }
     }
 
@@ -114,10 +124,10 @@ impl Draft<'_> {
     /// Left out are the inputs where the Rust's max and min depart, and in a calm session what would
     /// make large numbers.
     fn suits(&self, operation: usize, given: &[Given]) -> bool {
-        let name = self.kinds[operation].name;
+        let kind = &self.kinds[operation];
         let l = self.session.worth(given[0]);
         let r = self.session.worth(given[given.len() - 1]);
-        !departs(name, l, r) && (self.temper.infinite || is_calm(name, l, r))
+        !departs(kind.name, l, r) && (self.temper.infinite || is_calm(kind, l, r))
     }
 
     fn record(&mut self, operation: usize, given: &[Given]) -> Deed {
@@ -142,7 +152,7 @@ impl Draft<'_> {
     /// Now and then both the same, or a number as large as the other operand.
     fn operands(&mut self, operation: usize) -> Vec<Given> {
         let first = self.operand();
-        if self.kinds[operation].forms[0].letters.len() == 1 {
+        if self.kinds[operation].operands() == 1 {
             return vec![first];
         }
         let second = match self.random.below(16) {
@@ -206,7 +216,7 @@ impl Draft<'_> {
         self.model = model.len();
         self.session.call(SET_MARK);
         self.session.reset_adjoints();
-        let revolutions = self.size.between(200, 600, self.random);
+        let revolutions = self.size.revolutions(self.random);
         let turns = (0..revolutions).map(|_| self.turn()).collect();
         self.session.pass(Pass::PropagateMarkToStart);
         Played {
@@ -218,14 +228,8 @@ impl Draft<'_> {
 }
 
 /// Whether the operands, the value and the partials are all small enough for a calm session.
-fn is_calm(operation: &str, l: f64, r: f64) -> bool {
-    let made = match operation {
-        "add" => [l + r; 3],
-        "sub" => [l - r; 3],
-        "mul" => [l * r; 3],
-        "div" => [l / r, 1.0 / r, l / (r * r)],
-        _ => [0.0; 3],
-    };
+fn is_calm(kind: &Kind, l: f64, r: f64) -> bool {
+    let made = (kind.rule)(l, r);
     made.iter().chain(&[l, r]).all(|x| x.abs() < LARGE)
 }
 
@@ -233,7 +237,7 @@ fn session(random: &mut Random, kinds: &[Kind], size: Size) -> Played {
     let draft = Draft {
         temper: Temper {
             special: [200, 40, 12][random.below(3) as usize],
-            infinite: size == Size::Drawn && random.once_in(4),
+            infinite: size != Size::Most && random.once_in(4),
         },
         random,
         kinds,
@@ -316,15 +320,27 @@ impl Counts {
     }
 }
 
-fn print_all(seed: u64, count: u64, control: bool) -> io::Result<()> {
+/// The last session of a list has the most of everything, where sessions are not short.
+fn size(request: &Request, made: u64) -> Size {
+    if request.asks("supplied") {
+        return Size::Short;
+    }
+    let last = made == request.count && !request.asks("control");
+    if last {
+        Size::Most
+    } else {
+        Size::Drawn
+    }
+}
+
+fn print_all(request: &Request) -> io::Result<()> {
     let mut out = BufWriter::with_capacity(1 << 16, io::stdout().lock());
-    let mut random = Random::new(seed);
-    let kinds = kinds();
+    let mut random = Random::new(request.seed);
+    let kinds = kinds_of(request.asks("supplied"));
+    let control = request.asks("control");
     let mut counts = Counts::default();
-    for made in 1..=count {
-        let last = made == count && !control;
-        let size = if last { Size::Most } else { Size::Drawn };
-        let played = session(&mut random, &kinds, size);
+    for made in 1..=request.count {
+        let played = session(&mut random, &kinds, size(request, made));
         counts.add(&played);
         let own = played.session.digests(played.model.len());
         let long = long_tape(&kinds, &played.model, played.turns.iter().rev());
@@ -342,19 +358,11 @@ fn print_all(seed: u64, count: u64, control: bool) -> io::Result<()> {
 }
 
 fn usage() -> ! {
-    eprintln!("usage: sessions SEED COUNT [control], SEED and COUNT whole numbers");
+    eprintln!("usage: sessions SEED COUNT [supplied] [control], SEED and COUNT whole numbers");
     exit(2)
 }
 
 fn main() -> io::Result<()> {
-    let words: Vec<String> = std::env::args().skip(1).collect();
-    let (numbers, control) = match words.as_slice() {
-        [numbers @ .., last] if last == "control" => (numbers, true),
-        numbers => (numbers, false),
-    };
-    let numbers: Option<Vec<u64>> = numbers.iter().map(|word| word.parse().ok()).collect();
-    match numbers.as_deref() {
-        Some(&[seed, count]) => print_all(seed, count, control),
-        _ => usage(),
-    }
+    let request = Request::read(&["supplied", "control"]).unwrap_or_else(|| usage());
+    print_all(&request)
 }

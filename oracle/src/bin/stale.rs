@@ -63,7 +63,7 @@ fn print_use(story: Story, kinds: &[Kind], made: Use) {
     let mut session = told(story, kinds);
     let (stale, plain) = (Given::Node(STALE), Given::Plain(7.0));
     match made {
-        Use::Left(op) if kinds[op].forms[0].letters.len() == 1 => {
+        Use::Left(op) if kinds[op].operands() == 1 => {
             session.record(&kinds[op], "n", &[stale]);
         }
         Use::Left(op) => {

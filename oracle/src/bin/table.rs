@@ -1,13 +1,16 @@
-//! Prints the cases of docs/REPLAY.md for the operations table: `table SEED COUNT`.
+//! Prints the cases of docs/REPLAY.md for the operations table: `table SEED COUNT`, and
+//! `table SEED COUNT supplied` those of the operations that the port is supplied.
 
 use std::hint::black_box;
 use std::io::{self, BufWriter, Write};
 use std::process::exit;
 
 use oracle::ad::dual::Dual;
-use oracle::ad::tape::{Tape, TAPE};
-use oracle::operations::{kinds, Form, Kind, Operand};
+use oracle::ad::tape::Tape;
+use oracle::nodes::{edges, supplied};
+use oracle::operations::{kinds, supplied_kinds, Form, Kind, Operand};
 use oracle::random::Random;
+use oracle::request::Request;
 use oracle::words::{bits, SPECIAL};
 
 /// The operand of a letter; `n` puts it on the tape.
@@ -18,40 +21,13 @@ fn operand(letter: u8, x: f64) -> Operand {
     }
 }
 
-/// A node as the Rust prints it, `TapeNode { childs: [(CHILD, PARTIAL), .. ], adj: .. }`: its edges, each child by its address.
-fn edges(node: &str) -> Vec<(String, f64)> {
-    let list = node
-        .split_once("childs: [")
-        .and_then(|(_, rest)| rest.split_once(']'))
-        .map(|(list, _)| list)
-        .expect("a node has a list of children");
-    list.split_terminator("), ").map(edge).collect()
-}
-
-fn edge(text: &str) -> (String, f64) {
-    let (child, partial) = text
-        .strip_prefix('(')
-        .and_then(|text| text.split_once(", "))
-        .expect("an edge is a child and a partial");
-    (
-        child.to_string(),
-        partial.parse().expect("a partial is a float"),
-    )
-}
-
-/// How the Rust prints the node of a value, which has to be on the tape.
-fn node(x: Dual<f64>) -> String {
-    let pointer = x.node_ptr().expect("the value has a node");
-    TAPE.with(|tape| format!("{:?}", tape.borrow().node(pointer).expect("it is recorded")))
-}
-
 /// The addresses of the operands that are on the tape, left before right.
 fn addresses(operands: &[Operand]) -> Vec<String> {
     let pointers = operands.iter().filter_map(Dual::node_ptr);
     pointers.map(|pointer| format!("{pointer:?}")).collect()
 }
 
-/// The words of a case: its operands, the value, and the partial of each edge. The edges lead to the operands, in their order.
+/// The words of a case: its operands, what is supplied, the value, and the partial of each edge. The edges lead to the operands, in their order.
 fn words(kind: &Kind, form: &Form, pair: [f64; 2]) -> Vec<u64> {
     Tape::rewind_to_init();
     let letters = form.letters.as_bytes();
@@ -63,11 +39,12 @@ fn words(kind: &Kind, form: &Form, pair: [f64; 2]) -> Vec<u64> {
     let left = operands[0];
     let right = *operands.get(1).unwrap_or(&left);
     let recorded = (form.record)(left, right);
-    let (children, partials): (Vec<String>, Vec<f64>) = edges(&node(recorded)).into_iter().unzip();
+    let (children, partials): (Vec<String>, Vec<f64>) = edges(recorded).into_iter().unzip();
     let linked = if kind.links { &operands[..] } else { &[] };
     assert_eq!(children, addresses(linked), "the edges are the operands");
     let given = pair.into_iter().take(letters.len());
     given
+        .chain(supplied(kind, &operands, recorded))
         .chain([recorded.value()])
         .chain(partials)
         .map(bits)
@@ -127,31 +104,32 @@ fn print_seeded(
     Ok(())
 }
 
-fn print_all(seed: u64, count: u64) -> io::Result<()> {
+fn print_all(kinds: &[Kind], seed: u64, count: u64) -> io::Result<()> {
     let mut out = BufWriter::with_capacity(1 << 16, io::stdout().lock());
     let mut random = Random::new(seed);
-    let kinds = kinds();
     Tape::start_recording();
-    for kind in &kinds {
+    for kind in kinds {
         for form in &kind.forms {
             print_special(&mut out, kind, form)?;
         }
     }
-    for kind in &kinds {
+    for kind in kinds {
         print_seeded(&mut out, kind, &mut random, count)?;
     }
     out.flush()
 }
 
 fn usage() -> ! {
-    eprintln!("usage: table SEED COUNT, whole numbers");
+    eprintln!("usage: table SEED COUNT [supplied], SEED and COUNT whole numbers");
     exit(2)
 }
 
 fn main() -> io::Result<()> {
-    let numbers: Option<Vec<u64>> = std::env::args().skip(1).map(|a| a.parse().ok()).collect();
-    match numbers.as_deref() {
-        Some(&[seed, count]) => print_all(seed, count),
-        _ => usage(),
-    }
+    let request = Request::read(&["supplied"]).unwrap_or_else(|| usage());
+    let kinds = if request.asks("supplied") {
+        supplied_kinds()
+    } else {
+        kinds()
+    };
+    print_all(&kinds, request.seed, request.count)
 }

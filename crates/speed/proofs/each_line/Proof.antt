@@ -7,10 +7,10 @@ use Rattle.speed.proofs.each_line.Statement.{statement}
 use Rattle.speed.proofs.each_line.Tie as tie
 
 abbrev Inv-loop : tie.InvT-loop
-Inv-loop text order₀ i₀ i-end order i = (i ≤ length text) × (i-end ≡ length text)
+Inv-loop text order₀ i₀ i-end request i = (i ≤ length text) × (i-end ≡ length text)
 
 abbrev μ-loop : tie.MeasureT-loop
-μ-loop text order₀ i₀ i-end order i = length text - i
+μ-loop text order₀ i₀ i-end request i = length text - i
 
 pub each-line-spec : {M : Type 1} → statement M
 each-line-spec =

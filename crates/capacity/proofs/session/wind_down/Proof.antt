@@ -1,4 +1,5 @@
--- `wind_down` leaves every lent array as long as it was. What the first call kept of `value` lies too far back for `search`: the record after the second call leads there.
+-- `wind_down` leaves every lent array as long as it was. What the first call kept of `value` lies too far back for
+-- `search`: the record after the second call leads there.
 use borrow.Author.Needs.{needs}
 use native.Mathlib.Omega.{arith}
 use Rattle.capacity.proofs.session.wind_down.Statement.{statement}

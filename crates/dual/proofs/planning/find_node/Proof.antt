@@ -1,6 +1,4 @@
 -- A lookup's answer, case by case.
-use denote.Ref.{now}
-use Rattle.tape.proofs.Lookups.{alive, dead}
 use borrow.Author.Needs.{needs}
 use Rattle.dual.proofs.planning.find_node.Statement.{statement}
 use Rattle.dual.proofs.planning.find_node.Tie as tie
@@ -11,5 +9,5 @@ find-node-spec =
     (tie.spec
     (λ _ _. tt)
     (λ c. search needs) (λ c. search needs)
-    (λ c. rw (dead _ _ (now (c .before .before .before .before .args .serial)) (c .before .before .before .before .args .handle) (c .before .before .lookup .ensures) (c .enum-told .given .1)))
-    (λ c. rw (alive _ _ (now (c .before .before .before .before .args .serial)) (c .before .before .before .before .args .handle) (c .before .before .lookup .ensures) (c .enum-told2 .given .1))))
+    (λ c. rw (← c .before .before .before .usable .ensures, c .before .refusal .given .1))
+    (λ c. rw (← c .before .before .usable .ensures, c .enum-told .given .1)))

@@ -17,4 +17,5 @@ find-root-spec =
     (λ c. rw (c .before .before .which .given .1, c .find-operand .ensures))
     (λ c. rw (c .before .before .which2 .given .1, c .find-operand2 .ensures))
     (λ c. rw (c .before .before .which3 .given .1, c .find-operand3 .ensures))
-    (λ c. search needs) (λ c. search needs))
+    (λ c. rw (c .enum-told .given .1))
+    (λ c. rw (c .enum-told2 .given .1)))

@@ -1,35 +1,46 @@
 -- By the root that was found and the range that was tested (proofs/Plans.antt).
-use mathlib.Core.Path.{_≡_, sym, _∙_}
-use mathlib.Core.Bool.{true}
+use mathlib.Core.Path.{_≡_, sym, ap, subst, _∙_}
 use denote.Ref.{now}
-use borrow.Author.Tests.{not-true, not-false}
 use Rattle.tape.specs.Numbers.{floats}
-use Rattle.tape.specs.Machine.{Machine, arrays, machine, fits}
-use Rattle.tape.proofs.Steps.{misshapen}
-use Rattle.dual.proofs.Plans.{none-sound, node-sound, refuses, end-small, range-within, settled-by}
+use Rattle.tape.specs.Machine.{Machine, arrays, machine}
+use Rattle.tape.specs.Admission.{admitted, let-in, admission}
+use Rattle.tape.specs.Calls.{pass, plan}
+use Rattle.tape.specs.Refusals.{refusal-of}
+use Rattle.tape.specs.declared.admission.Caller.the-variants as caller
+use Rattle.dual.specs.Inner.{pass-of, root-if, planned, Ready}
+use Rattle.dual.specs.declared.planning.Pass.{Pass}
+use Rattle.dual.specs.declared.planning.Planned.{Planned}
+use Rattle.dual.proofs.Plans.{roots, ready-so, refuses, end-small, range-within, plans}
 use borrow.Author.Needs.{needs}
 use Rattle.dual.proofs.planning.plan.Statement.{statement}
 use Rattle.dual.proofs.planning.plan.Tie as tie
 
-abbrev M : tie.After-admits → Machine floats
-M c = let a = c .before .before .before .before .before .before .before .args in machine (a .tape) (arrays (now (a .value)) (now (a .adjoint)) (now (a .serial)) (now (a .count)) (now (a .child)) (now (a .partial)))
+abbrev start : tie.After-let-in → tie.Start
+start c = c .before .before .before .before .before .before .before .before
 
-fitting : (c : tie.Else1) → fits true (M (c .before)) ≡ true
-fitting c = sym (c .before .admits .ensures) ∙ not-false (c .before .admits .result) (c .if1 .left)
+abbrev M : tie.After-let-in → Machine floats
+M c = let a = start c .args in machine (a .tape) (arrays (now (a .value)) (now (a .adjoint)) (now (a .serial)) (now (a .count)) (now (a .child)) (now (a .partial)))
+
+abbrev which : tie.After-let-in → Pass
+which c = start c .args .which
+
+-- the root that was found, of this machine
+found : (c : tie.After-let-in) → c .let-in .result ≡ root-if (admitted (let-in caller.Passing (M c))) (roots (M c) (which c))
+found c = c .let-in .ensures ∙ ap (λ n. root-if (admitted (admission caller.Passing n (M c .state))) (roots (M c) (which c))) (c .before .of .ensures)
+
+-- what is answered is the plan, and so it can be carried out
+both : (K : Machine floats) (w : Pass) (z : Planned) → let P = planned (refusal-of (pass (pass-of w)) K) (plan (pass-of w) (K .state)) in
+    z ≡ P → (z ≡ P) × Ready z (K .lent .adjoint) (K .lent .count) (K .lent .child) (K .lent .partial)
+both K w z e = (e, subst (λ z. Ready z (K .lent .adjoint) (K .lent .count) (K .lent .child) (K .lent .partial)) (sym e) (ready-so K (pass-of w)))
 
 pub plan-spec : {M : Type 1} → statement M
 plan-spec =
     tie.close
     (tie.spec
     (λ _ _. tt)
-    (λ c. (misshapen _ (M (c .before)) (sym (c .before .admits .ensures) ∙ not-true (c .before .admits .result) (c .if1 .taken)), tt))
     (λ _ _. tt)
     (λ c. search needs) (λ c. search needs)
-    (λ c κs. end-small (M (c .before .before .before .before)) (fitting (c .before .before .before)) (c .before .before .before .before .before .before .before .before .before .before .before .args .which) _ (c .before .before .find-root .ensures) (none-sound (c .enum-told .given .1)))
-    (λ c κs. range-within (M (c .before .before .before .before .before)) (fitting (c .before .before .before .before)) (c .before .before .before .before .before .before .before .before .before .before .before .before .args .which) _ (c .before .before .before .find-root .ensures) (none-sound (c .before .enum-told .given .1)) _ (c .range-of .ensures))
-    (λ c. search needs)
-    (λ c κs. end-small (M (c .before .before .before .before .before)) (fitting (c .before .before .before .before)) (c .before .before .before .before .before .before .before .before .before .before .before .before .args .which) _ (c .before .before .before .find-root .ensures) (node-sound _ (c .before .handle .given .1)))
-    (λ c κs. range-within (M (c .before .before .before .before .before .before)) (fitting (c .before .before .before .before .before)) (c .before .before .before .before .before .before .before .before .before .before .before .before .before .args .which) _ (c .before .before .before .before .find-root .ensures) (node-sound _ (c .before .before .handle .given .1)) _ (c .range-of2 .ensures))
-    (λ c. refuses (M (c .before .before .before .before .before)) (fitting (c .before .before .before .before)) (c .before .before .before .before .before .before .before .before .before .before .before .before .args .which) _ (c .before .before .before .find-root .ensures) _ (c .before .refusal .given .1))
-    (λ c. settled-by (M (c .before .before .before .before .before .before)) (fitting (c .before .before .before .before .before)) (c .before .before .before .before .before .before .before .before .before .before .before .before .before .args .which) _ (c .before .before .before .before .find-root .ensures) _ (c .before .before .enum-told .given .1) _ (c .before .range-of .ensures) _ (c .if-sound .ensures))
-    (λ c. settled-by (M (c .before .before .before .before .before .before .before)) (fitting (c .before .before .before .before .before .before)) (c .before .before .before .before .before .before .before .before .before .before .before .before .before .before .args .which) _ (c .before .before .before .before .before .find-root .ensures) _ (c .before .before .before .handle .given .1) _ (c .before .range-of2 .ensures) _ (c .if-sound2 .ensures)))
+    (λ c κs. let k = c .before .before .before in end-small (M k) (which k) _ (found k) _ (c .before .root .given .1))
+    (λ c κs. let k = c .before .before .before .before in range-within (M k) (which k) _ (found k) _ (c .before .before .root .given .1) _ (c .range-of .ensures))
+    (λ c. let k = c .before .before .before in both (M k) (which k) _ (refuses (M k) (which k) _ (found k) _ (c .before .refusal .given .1)))
+    (λ c. let k = c .before .before .before .before .before in both (M k) (which k) _ (plans (M k) (which k) _ (found k) _ (c .before .before .before .root .given .1) _ (c .before .range-of .ensures) _ (c .if-sound .ensures))))

@@ -1,6 +1,7 @@
 -- The pass's case.
 use Prim.Native.Nat.{_≤_}
 use mathlib.Core.Path.{subst}
+use Rattle.tape.specs.Machine.{most-nodes}
 use Rattle.tape.specs.Calls.{plan}
 use Rattle.dual.specs.Inner.{pass-of}
 use borrow.Author.Needs.{needs}
@@ -12,7 +13,7 @@ range-of-spec =
     tie.close
     (tie.spec
     (λ c. search needs)
-    (λ c κs. subst (λ w. plan (pass-of w) (c .before .before .before .args .tape) .end ≤ 65535) (c .before .which .given .1) (c .before .before .before .pre))
+    (λ c κs. subst (λ w. plan (pass-of w) (c .before .before .before .args .tape) .end ≤ most-nodes) (c .before .which .given .1) (c .before .before .before .pre))
     (λ c. search needs)
     (λ _ _. tt)
     (λ c. search needs)

@@ -1,29 +1,34 @@
--- A handle by its lookup; a number is refused.
-use mathlib.Core.Path.{_≡_, sym, _∙_}
-use mathlib.Core.Bool.{true}
+-- Turned away, or answered by what stands behind the operand.
+use mathlib.Core.Path.{_≡_, ap, _∙_}
 use denote.Ref.{now}
-use borrow.Author.Tests.{not-true, not-false}
 use Rattle.tape.specs.Numbers.{floats}
-use Rattle.tape.specs.Machine.{Machine, arrays, machine, fits}
-use Rattle.tape.proofs.Steps.{misshapen}
-use Rattle.dual.proofs.Readings.{readable-adjoints, adjoint-number, adjoint-node}
+use Rattle.tape.specs.Machine.{Machine, arrays, machine}
+use Rattle.tape.specs.declared.admission.Caller.the-variants as caller
+use Rattle.tape.proofs.Steps.{turned-away, is-granted}
+use Rattle.tape.specs.Admission.{admitted, let-in, admission}
+use Rattle.dual.specs.Outcome.{read-outcome}
+use Rattle.dual.proofs.Readings.{readable-adjoints, adjoint-so}
 use borrow.Author.Needs.{needs}
 use Rattle.dual.proofs.reading.adjoint.Statement.{statement}
 use Rattle.dual.proofs.reading.adjoint.Tie as tie
 
-abbrev M : tie.After-admits → Machine floats
-M c = let a = c .before .before .before .before .before .before .before .args in machine (a .tape) (arrays (now (a .value)) (now (a .adjoint)) (now (a .serial)) (now (a .count)) (now (a .child)) (now (a .partial)))
+-- the machine, and what the admission says of it
+abbrev start : tie.After-admit → tie.Start
+start c = c .before .before .before .before .before .before .before .before
 
-fitting : (c : tie.Else1) → fits true (M (c .before)) ≡ true
-fitting c = sym (c .before .admits .ensures) ∙ not-false (c .before .admits .result) (c .if1 .left)
+abbrev M : tie.After-admit → Machine floats
+M c = let a = start c .args in machine (a .tape) (arrays (now (a .value)) (now (a .adjoint)) (now (a .serial)) (now (a .count)) (now (a .child)) (now (a .partial)))
+
+answer : (c : tie.After-admit) → c .admit .result ≡ admitted (let-in caller.Adjoint (M c))
+answer c = c .admit .ensures ∙ ap (λ n. admitted (admission caller.Adjoint n (M c .state))) (c .before .of .ensures)
 
 pub adjoint-spec : {M : Type 1} → statement M
 adjoint-spec =
     tie.close
     (tie.spec
     (λ _ _. tt)
-    (λ c. misshapen _ (M (c .before)) (sym (c .before .admits .ensures) ∙ not-true (c .before .admits .result) (c .if1 .taken)))
+    (λ _ _. tt)
     (λ c. search needs) (λ c. search needs)
-    (λ c κs. readable-adjoints (M (c .before .before .before .before)) (fitting (c .before .before .before)))
-    (λ c. adjoint-number (M (c .before .before .before)) (fitting (c .before .before)) _ _ (c .enum-told .given .1))
-    (λ c. adjoint-node (M (c .before .before .before .before .before)) (fitting (c .before .before .before .before)) _ _ _ (c .before .before .x .given .1) (c .behind .ensures)))
+    (λ c κs. readable-adjoints (M (c .before .before)) (is-granted _ (let-in caller.Adjoint (M (c .before .before))) (answer (c .before .before)) (c .enum-told .given .1)))
+    (λ c. turned-away _ (M (c .before .before .before)) _ _ (answer (c .before .before .before)) (c .before .refusal .given .1))
+    (λ c. let m = M (c .before .before .before) in ap (λ y. read-outcome y m) (c .adjoint-behind .ensures) ∙ adjoint-so m (start (c .before .before .before) .args .x) (is-granted _ (let-in caller.Adjoint m) (answer (c .before .before .before)) (c .before .enum-told .given .1))))

@@ -1,30 +1,34 @@
--- By the lookup; a number is not live.
-use mathlib.Core.Path.{_≡_, sym, _∙_}
-use mathlib.Core.Bool.{true}
+-- Turned away, or answered by what stands behind the operand.
+use mathlib.Core.Path.{_≡_, ap, _∙_}
 use denote.Ref.{now}
-use borrow.Author.Tests.{not-true, not-false}
 use Rattle.tape.specs.Numbers.{floats}
-use Rattle.tape.specs.Machine.{Machine, arrays, machine, fits}
-use Rattle.tape.proofs.Steps.{misshapen}
-use Rattle.dual.proofs.Readings.{live-number, live-node}
+use Rattle.tape.specs.Machine.{Machine, arrays, machine}
+use Rattle.tape.specs.declared.admission.Caller.the-variants as caller
+use Rattle.tape.proofs.Steps.{turned-away, is-granted}
+use Rattle.tape.specs.Admission.{admitted, let-in, admission}
+use Rattle.dual.specs.Outcome.{liveness-outcome}
+use Rattle.dual.proofs.Readings.{liveness-so}
 use borrow.Author.Needs.{needs}
 use Rattle.dual.proofs.reading.is_live.Statement.{statement}
 use Rattle.dual.proofs.reading.is_live.Tie as tie
 
-abbrev M : tie.After-admits → Machine floats
-M c = let a = c .before .before .before .before .before .before .before .args in machine (a .tape) (arrays (now (a .value)) (now (a .adjoint)) (now (a .serial)) (now (a .count)) (now (a .child)) (now (a .partial)))
+-- the machine, and what the admission says of it
+abbrev start : tie.After-admit → tie.Start
+start c = c .before .before .before .before .before .before .before .before
 
-fitting : (c : tie.Else1) → fits true (M (c .before)) ≡ true
-fitting c = sym (c .before .admits .ensures) ∙ not-false (c .before .admits .result) (c .if1 .left)
+abbrev M : tie.After-admit → Machine floats
+M c = let a = start c .args in machine (a .tape) (arrays (now (a .value)) (now (a .adjoint)) (now (a .serial)) (now (a .count)) (now (a .child)) (now (a .partial)))
+
+answer : (c : tie.After-admit) → c .admit .result ≡ admitted (let-in caller.Liveness (M c))
+answer c = c .admit .ensures ∙ ap (λ n. admitted (admission caller.Liveness n (M c .state))) (c .before .of .ensures)
 
 pub is-live-spec : {M : Type 1} → statement M
 is-live-spec =
     tie.close
     (tie.spec
     (λ _ _. tt)
-    (λ c. misshapen _ (M (c .before)) (sym (c .before .admits .ensures) ∙ not-true (c .before .admits .result) (c .if1 .taken)))
+    (λ _ _. tt)
     (λ c. search needs) (λ c. search needs)
     (λ _ _. tt)
-    (λ _ _. tt)
-    (λ c. live-number (M (c .before .before .before)) (fitting (c .before .before)) _ _ (c .enum-told .given .1))
-    (λ c. live-node (M (c .before .before .before .before .before .before)) (fitting (c .before .before .before .before .before)) _ _ _ _ (c .before .before .before .x .given .1) (c .before .lookup .ensures) (c .told .ensures)))
+    (λ c. turned-away _ (M (c .before .before .before)) _ _ (answer (c .before .before .before)) (c .before .refusal .given .1))
+    (λ c. let m = M (c .before .before .before) in ap (λ y. liveness-outcome y m) (c .liveness-behind .ensures) ∙ liveness-so m (start (c .before .before .before) .args .x) (is-granted _ (let-in caller.Liveness m) (answer (c .before .before .before)) (c .before .enum-told .given .1))))

@@ -1,4 +1,5 @@
--- `read_all` is safe and ends: what is pending stays within the line, the counts stay within their bounds, and each turn takes one of those that are left.
+-- `read_all` is safe and ends: what is pending stays within the line, the counts stay within their bounds, and each
+-- turn takes one of those that are left.
 use mathlib.Core.Path.{_≡_}
 use Prim.Native.Nat.{_≤_}
 use lib.ListN.{length}

@@ -1,4 +1,5 @@
--- `read_piece` is safe and ends: the loop's index stays within the piece, what is pending within the line, and the counts within their bounds.
+-- `read_piece` is safe and ends: the loop's index stays within the piece, what is pending within the line, and the
+-- counts within their bounds.
 use mathlib.Core.Path.{_≡_}
 use Prim.Native.Nat.{_≤_, _-_}
 use lib.ListN.{length}

@@ -1,4 +1,5 @@
--- `take_byte` is safe: what is pending stays within the line, and the part of the line that is taken is as long as what is pending.
+-- `take_byte` is safe: what is pending stays within the line, and the part of the line that is taken is as long as what
+-- is pending.
 use native.Mathlib.Omega.{arith}
 use borrow.Author.Needs.{needs}
 use lib.ListN.{length-take}

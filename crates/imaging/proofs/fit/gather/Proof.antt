@@ -1,4 +1,5 @@
--- `gather` leaves every lent array as long as it was. That there are few revolutions lies too far back for `search`: the record after the first call leads there.
+-- `gather` leaves every lent array as long as it was. That there are few revolutions lies too far back for `search`:
+-- the record after the first call leads there.
 use borrow.Author.Needs.{needs}
 use native.Mathlib.Omega.{arith}
 use Rattle.imaging.proofs.fit.gather.Statement.{statement}

@@ -1,4 +1,5 @@
--- `run` is safe and ends: the steps are counted, and no lent array changes its length. What a step kept of them lies too far back for `search`: the record after it leads there.
+-- `run` is safe and ends: the steps are counted, and no lent array changes its length. What a step kept of them lies
+-- too far back for `search`: the record after it leads there.
 use mathlib.Core.Path.{_≡_}
 use Prim.Native.Nat.{_≤_, _-_}
 use native.Mathlib.Omega.{arith}

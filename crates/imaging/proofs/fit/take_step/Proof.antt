@@ -1,4 +1,5 @@
--- `take_step` leaves every lent array as long as it was. What the first call kept of some lies too far back for `search`: the record after it leads there.
+-- `take_step` leaves every lent array as long as it was. What the first call kept of some lies too far back for
+-- `search`: the record after it leads there.
 use borrow.Author.Needs.{needs}
 use native.Mathlib.Omega.{arith}
 use Rattle.imaging.proofs.fit.take_step.Statement.{statement}

@@ -1,4 +1,5 @@
--- `record_model` is safe and ends: the nodes are counted, and no lent array changes its length. What is known of the count lies too far back for `search`: the record after the recording leads there.
+-- `record_model` is safe and ends: the nodes are counted, and no lent array changes its length. What is known of the
+-- count lies too far back for `search`: the record after the recording leads there.
 use mathlib.Core.Path.{_≡_}
 use Prim.Native.Nat.{_≤_, _-_}
 use lib.ListN.{length}

@@ -1,4 +1,5 @@
--- `turn` leaves every lent array as long as it was. What the first call kept of some lies too far back for `search`: the record after it leads there.
+-- `turn` leaves every lent array as long as it was. What the first call kept of some lies too far back for `search`:
+-- the record after it leads there.
 use native.Mathlib.Omega.{arith}
 use borrow.Author.Needs.{needs}
 use Rattle.imaging.proofs.revolution.turn.Statement.{statement}

@@ -4,7 +4,7 @@ use mathlib.Core.List.{[]}
 use borrow.Author.Needs.{needs}
 use Rattle.listing.specs.Inner.{shown}
 use Rattle.listing.proofs.Lines.{listing-length, lines-length}
-use Rattle.listing.proofs.Numerals.{decimal-short}
+use Rattle.text.proofs.Numerals.{decimal-short}
 use Rattle.listing.proofs.listing.listing_length.Statement.{statement}
 use Rattle.listing.proofs.listing.listing_length.Tie as tie
 

@@ -7,11 +7,12 @@ use borrow.Author.Needs.{needs}
 use denote.Ref.{now}
 use lib.Ieee.{Float, nan, binary64, toBits}
 use lib.ListN.{length, getD}
-use Rattle.tape.specs.Listing.{bytes, hex, decimal, line}
+use Rattle.text.specs.Numerals.{bytes, hex, decimal}
+use Rattle.tape.specs.Listing.{line}
 use Rattle.listing.specs.Inner.{shown}
 use Rattle.listing.proofs.Lines.{line-length}
-use Rattle.listing.proofs.Numerals.{length-hex}
-use Rattle.listing.proofs.Stores.{then, then-two}
+use Rattle.text.proofs.Numerals.{length-hex}
+use Rattle.text.proofs.Stores.{then-two, then-written}
 use Rattle.listing.proofs.listing.write_line.Statement.{statement}
 use Rattle.listing.proofs.listing.write_line.Tie as tie
 
@@ -41,7 +42,8 @@ returns c =
     let text = c .before .before in
     let three = text .before .before .before .before .before in
     let two = second three in
-    then (then-two (then-two (first two .write-labelled-decimal .ensures) (bytes " val=") _ (two .write-labelled-bits .ensures)) (bytes " adj=") _ (three .write-labelled-bits2 .ensures)) (text .write-text .ensures)
+    then-written (then-two (then-two (first two .write-labelled-decimal .ensures) (bytes " val=") _ (two .write-labelled-bits .ensures)) (bytes " adj=") _ (three .write-labelled-bits2 .ensures))
+    (bytes "\n") (start (first two) .pre .0) (text .write-text .ensures)
 
 pub write-line-spec : {M : Type 1} → statement M
 write-line-spec =
@@ -54,6 +56,6 @@ write-line-spec =
     (λ c. search needs) (λ c. search needs) (λ c. search needs)
     (λ c κs. omega (arith, lengths (start (first (c .before .before .before .before .before)))))
     (λ c. search needs)
-    (λ c κs. omega (arith, lengths (start (first (second (c .before .before .before .before))))))
+    (λ c κs. search needs)
     (λ c. search needs)
     returns)

@@ -10,7 +10,7 @@ use Rattle.tape.specs.Walk.{indexes}
 use Rattle.tape.specs.Listing.{lines}
 use Rattle.listing.specs.Inner.{shown}
 use Rattle.listing.proofs.Lines.{lines-from, first-line, first-length, line-length, no-line}
-use Rattle.listing.proofs.Stores.{Left, less-left, none-left}
+use Rattle.text.proofs.Stores.{Left, less-left, none-left}
 use Rattle.listing.proofs.listing.write_lines.Statement.{statement}
 use Rattle.listing.proofs.listing.write_lines.Tie as tie
 

@@ -1,4 +1,5 @@
 -- `record_all` is safe and ends: the loop's index stays within the nodes, and no lent array changes its length.
+use Rattle.tape.specs.Machine.{most-nodes}
 use mathlib.Core.Path.{_≡_}
 use Prim.Native.Nat.{_≤_, _-_}
 use lib.ListN.{length}
@@ -8,7 +9,7 @@ use Rattle.speed.proofs.rounds.record_all.Tie as tie
 
 abbrev Inv-loop : tie.InvT-loop
 Inv-loop value₀ adjoint₀ serial₀ count₀ child₀ partial₀ word plain serials₀ tape₀ i₀ value adjoint serial count child partial serials tape i =
-    (i ≤ 65535)
+    (i ≤ most-nodes)
     × (length value ≡ length value₀)
     × (length adjoint ≡ length adjoint₀)
     × (length serial ≡ length serial₀)
@@ -17,7 +18,7 @@ Inv-loop value₀ adjoint₀ serial₀ count₀ child₀ partial₀ word plain s
     × (length partial ≡ length partial₀)
 
 abbrev μ-loop : tie.MeasureT-loop
-μ-loop value₀ adjoint₀ serial₀ count₀ child₀ partial₀ word plain serials₀ tape₀ i₀ value adjoint serial count child partial serials tape i = 65535 - i
+μ-loop value₀ adjoint₀ serial₀ count₀ child₀ partial₀ word plain serials₀ tape₀ i₀ value adjoint serial count child partial serials tape i = most-nodes - i
 
 pub record-all-spec : {M : Type 1} → statement M
 record-all-spec =

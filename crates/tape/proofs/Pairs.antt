@@ -1,0 +1,25 @@
+-- Every pair, by computation.
+use mathlib.Core.Path.{refl}
+use lib.Ieee.{add, sub, mul, div, neg, lt, le, ofInt, ofBits, toBits}
+use Rattle.tape.specs.Steps.{step}
+use Rattle.tape.specs.Pairs.{Order}
+
+pub order : Order
+unfolding step add sub mul div neg lt le ofInt ofBits toBits
+order = record {
+  one-and-two = (refl, refl);
+  one-and-three = (refl, refl);
+  one-and-four = (refl, refl);
+  one-and-five = (refl, refl);
+  one-and-six = (refl, refl);
+  one-and-seven = (refl, refl);
+  one-and-eight = (refl, refl);
+  two-and-three = (refl, refl);
+  two-and-five = (refl, refl);
+  two-and-six = (refl, refl);
+  three-and-five = (refl, refl);
+  three-and-six = (refl, refl);
+  three-and-seven = (refl, refl);
+  four-and-seven = (refl, refl);
+  five-and-six = (refl, refl);
+}

@@ -1,7 +1,0 @@
--- The step of a move, by one lemma for all six.
-use Rattle.tape.proofs.Moves.{move-told}
-use Rattle.tape.proofs.state.Tape.rewind_to_init.Statement.{statement}
-use Rattle.tape.proofs.state.Tape.rewind_to_init.Tie as tie
-
-pub rewind-to-init-spec : {M : Type 1} → statement M
-rewind-to-init-spec = tie.close (tie.spec (λ _ _. tt) (λ c. move-told _ _ _ (c .moved-to .ensures)))
