@@ -94,7 +94,9 @@ impl Choice {
             untied += u32::from(partial != (l == r));
         }
         let name = self.name;
-        print!("{name}, sweep: pairs={pairs} values_depart={values} outside_the_classes={outside} ");
+        print!(
+            "{name}, sweep: pairs={pairs} values_depart={values} outside_the_classes={outside} "
+        );
         println!("partials_depart={partials} other_than_the_ties={untied}");
     }
 }
