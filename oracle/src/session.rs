@@ -52,8 +52,6 @@ pub struct Session {
     recorded: Vec<Dual<f64>>,
     /// Which of them are on the tape, by their index there.
     live: Vec<usize>,
-    /// Whether max or min met an input where the Rust departs from the rule, or may.
-    pub departed: bool,
 }
 
 impl Session {
@@ -65,7 +63,6 @@ impl Session {
             text: String::new(),
             recorded: Vec::new(),
             live: Vec::new(),
-            departed: false,
         }
     }
 
@@ -152,7 +149,6 @@ impl Session {
         let form = form.expect("the operation has the form");
         let (left, right) = (given[0], given[given.len() - 1]);
         let made = (form.record)(self.dual(left), self.dual(right));
-        self.departed |= departs(kind.name, self.worth(left), self.worth(right));
         self.text.push_str(kind.name);
         for &operand in given {
             self.say_given(operand);
@@ -300,9 +296,9 @@ impl Default for Session {
     }
 }
 
-/// The inputs of max and min that docs/DIFFERENCES.md names.
+/// The inputs of max and min that docs/DIFFERENCES.md names: ties, whose partials depart and, at two zeros of unlike
+/// sign, the value; and a NaN on the right alone, where the value does. Either flows on.
 #[must_use]
 pub fn departs(operation: &str, l: f64, r: f64) -> bool {
-    let zeros = l == 0.0 && r == 0.0 && l.is_sign_negative() != r.is_sign_negative();
-    matches!(operation, "max" | "min") && ((r.is_nan() && !l.is_nan()) || zeros)
+    matches!(operation, "max" | "min") && (l == r || (r.is_nan() && !l.is_nan()))
 }

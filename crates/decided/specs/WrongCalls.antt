@@ -272,14 +272,16 @@ divide-tried =
     a-step (step (binary DIVIDE x0 x1) two) (recording (over 3 2) (to 0 (over 3 2) ∷ to 1 (minus (over 3 4)) ∷ []))
     ∷ a-step (step (binary DIVIDE x0 (plain nought)) two) (refused UnknownOperation, two) ∷ []
 
--- record MAX: a partial of 1 at a tie; the number in place of a NaN on the right
+-- record MAX: both partials 0 at a tie; the right one 1 there; the number in place of a NaN on the right
 abbrev pub max-tried : List Tried
-max-tried = a-step (step (binary MAX x0 x0) two) (recording (float 3) (to 0 one ∷ to 0 nought ∷ []))
+max-tried = a-step (step (binary MAX x0 x0) two) (recording (float 3) (to 0 nought ∷ to 0 nought ∷ []))
+    ∷ a-step (step (binary MAX x0 x0) two) (recording (float 3) (to 0 nought ∷ to 0 one ∷ []))
     ∷ a-step (step (binary MAX x0 (plain nan)) two) (recording (float 3) (to 0 nought ∷ [])) ∷ []
 
--- record MIN: a partial of 1 at a tie; the number in place of a NaN on the right
+-- record MIN: both partials 0 at a tie; the right one 1 there; the number in place of a NaN on the right
 abbrev pub min-tried : List Tried
-min-tried = a-step (step (binary MIN x0 x0) two) (recording (float 3) (to 0 one ∷ to 0 nought ∷ []))
+min-tried = a-step (step (binary MIN x0 x0) two) (recording (float 3) (to 0 nought ∷ to 0 nought ∷ []))
+    ∷ a-step (step (binary MIN x0 x0) two) (recording (float 3) (to 0 nought ∷ to 0 one ∷ []))
     ∷ a-step (step (binary MIN x0 (plain nan)) two) (recording (float 3) (to 0 nought ∷ [])) ∷ []
 
 -- record NEGATE: -x, which is -0.0 at +0.0; a partial of 1

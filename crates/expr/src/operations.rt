@@ -62,12 +62,12 @@ pub(crate) fn apply(op: u8, l: f64, r: f64, supplied: Supplied) -> Row
         DIVIDE => Row::Two(l / r, 1.0 / r, 0.0 - l / (r * r)),
         MAX => Row::Two(
             either(l >= r, l, r),
-            either(l > r, 1.0, 0.0),
+            either(l >= r, 1.0, 0.0),
             either(r > l, 1.0, 0.0),
         ),
         MIN => Row::Two(
             either(l <= r, l, r),
-            either(l < r, 1.0, 0.0),
+            either(l <= r, 1.0, 0.0),
             either(r < l, 1.0, 0.0),
         ),
         NEGATE => Row::One(0.0 - l, 0.0 - 1.0),

@@ -6,6 +6,7 @@ use crate::order2;
 use crate::order3;
 use crate::order4;
 use crate::report;
+use crate::tally::NOTHING;
 use crate::tally::Tally;
 use crate::tape_kinds::KINDS;
 use crate::words;
@@ -34,10 +35,10 @@ pub(crate) fn replay(list: &[u8], order: usize, line: &[u8], tally: Tally) -> Ta
     let mut got: Answer = [0; 16];
     carry_out(order, kind, &case, &mut got);
     if words::is_same(&case, operands, &got, answers) {
-        return tally.next_case(kind, true, false);
+        return tally.next_case(kind, true, NOTHING);
     }
     report::difference(list, tally.lines, line, &got, answers);
-    tally.next_case(kind, false, false)
+    tally.next_case(kind, false, NOTHING)
 }
 
 fn carry_out(order: usize, kind: usize, case: &Case, got: &mut Answer) {

@@ -173,6 +173,9 @@ fn of_kind(list: &[u8], subject: Subject, name: &[u8], kind: usize, counted: Cou
     if counted.apart > 0 {
         count(b" apart=", counted.apart);
     }
+    if counted.tie > 0 {
+        count(b" tie=", counted.tie);
+    }
     text(b"\n");
 }
 

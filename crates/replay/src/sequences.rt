@@ -12,6 +12,7 @@ use crate::nodes::NO_COUNT;
 use crate::nodes::UNLIKELY;
 use crate::nodes::supplied;
 use crate::report;
+use crate::tally::NOTHING;
 use crate::tally::Tally;
 use crate::tape_kinds;
 use crate::tape_kinds::END;
@@ -236,7 +237,7 @@ impl Run {
         let mut run = self.after(heard);
         let kind = counted_as(call);
         let agrees = agrees(call, heard);
-        run.tally = run.tally.next_case(kind, agrees, false);
+        run.tally = run.tally.next_case(kind, agrees, NOTHING);
         if agrees {
             run.going = (kind != END) & (kind != STALE);
             return run;

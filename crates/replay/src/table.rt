@@ -7,6 +7,7 @@ use crate::nodes::NO_CHILD;
 use crate::nodes::Node;
 use crate::nodes::Outcome;
 use crate::report;
+use crate::tally::Aside;
 use crate::tally::Tally;
 use crate::tape_kinds;
 use crate::words;
@@ -15,13 +16,14 @@ use crate::words::NAN;
 use crate::words::PLACES;
 use crate::words::byte_at;
 use crate::words::find;
+use crate::words::float_of;
 use tape::MOST_EDGES;
 ghost use mathlib.Core.Path.{_≡_};
 ghost use Prim.Native.Nat.{_+_, _*_, _≤_, _<_};
 
-const PLUS_ZERO: u64 = 0;
+const ZERO: u64 = 0;
 
-const MINUS_ZERO: u64 = 0x8000_0000_0000_0000;
+const ONE: u64 = 0x3ff0_0000_0000_0000;
 
 // The letters of a case's operands, n for one on the tape and p for a plain number. A single operand stands in both.
 struct Form {
@@ -108,7 +110,7 @@ fn judge(
     };
     let count = tape_kinds::supplied_of(kind);
     let at = operands + count;
-    let wanted = node_of(left.on_tape, right.on_tape, at, partials, case);
+    let recorded = node_of(left.on_tape, right.on_tape, at, partials, case);
     let given = nodes::supplied(
         count,
         case[operands],
@@ -116,12 +118,13 @@ fn judge(
         case[operands + 2],
     );
     let got = nodes::carry_out(tape_kinds::operation(kind), left, right, given);
-    let apart = is_apart(kind, left.bits, right.bits);
-    if agrees(got, wanted, apart) {
-        return tally.next_case(kind, true, apart);
+    let aside = aside(kind, left.bits, right.bits);
+    let wanted = by_the_rule(recorded, aside, left.on_tape);
+    if agrees(got, wanted, aside) {
+        return tally.next_case(kind, true, aside);
     }
     report::outcome(list, tally.lines, line, got);
-    tally.next_case(kind, false, apart)
+    tally.next_case(kind, false, aside)
 }
 
 // The node that the line has after the words that are given. An operand on the tape has the index at which it stands
@@ -147,29 +150,39 @@ fn child(there: bool, index: u16) -> u16 {
     if there { index } else { NO_CHILD }
 }
 
-// Where the Rust's value departs from the rule, or may: max and min of a NaN on the right alone, and of two zeros of
-// unlike sign (docs/DIFFERENCES.md).
-fn is_apart(kind: usize, left: u64, right: u64) -> bool {
+// Where the Rust departs from the rule, or may (docs/DIFFERENCES.md): the value of max and min where the right operand
+// alone is a NaN, and at two zeros of unlike sign, which are equal with unlike bits; the partials at every tie.
+fn aside(kind: usize, left: u64, right: u64) -> Aside {
     let right_alone = (right == NAN) & (left != NAN);
-    let zeros = is_zero(left) & is_zero(right) & (left != right);
-    tape_kinds::chooses(kind) & (right_alone | zeros)
+    let tie = float_of(left) == float_of(right);
+    Aside {
+        value: tape_kinds::chooses(kind) & (right_alone | (tie & (left != right))),
+        partials: tape_kinds::chooses(kind) & tie,
+    }
 }
 
-fn is_zero(bits: u64) -> bool {
-    (bits == PLUS_ZERO) | (bits == MINUS_ZERO)
+// The node as it has to be: with the partials of the line or, at a tie, with 1 for the left operand and 0 for the
+// right. The first edge is the left operand's where that is on the tape.
+fn by_the_rule(recorded: Node, aside: Aside, left_on_tape: bool) -> Node {
+    let mut node = recorded;
+    if aside.partials {
+        node.first.partial = if left_on_tape { ONE } else { ZERO };
+        node.second.partial = ZERO;
+    }
+    node
 }
 
-// Whether the port recorded the node that the line has, but for its value where that is left out.
-fn agrees(got: Outcome, wanted: Node, apart: bool) -> bool {
+// Whether the port recorded the node, but for its value where that is left out.
+fn agrees(got: Outcome, wanted: Node, aside: Aside) -> bool {
     match got {
-        Outcome::Node(node) => is_same(node, wanted, apart),
+        Outcome::Node(node) => is_same(node, wanted, aside),
         Outcome::NoNode => false,
         Outcome::Refused(_) => false,
     }
 }
 
-fn is_same(node: Node, wanted: Node, apart: bool) -> bool {
-    (apart | (node.value == wanted.value))
+fn is_same(node: Node, wanted: Node, aside: Aside) -> bool {
+    (aside.value | (node.value == wanted.value))
         & (node.count == wanted.count)
         & ((wanted.count < 1) | is_same_edge(node.first, wanted.first))
         & ((wanted.count < 2) | is_same_edge(node.second, wanted.second))

@@ -2,17 +2,31 @@
 
 use crate::tape_kinds::KINDS;
 
-// Of one kind: how many cases there are, how many differ, and of how many the value is left out of the comparison.
+// What of a case is not held to the Rust's answer: its value, its partials.
+pub struct Aside {
+    pub value: bool,
+    pub partials: bool,
+}
+
+pub const NOTHING: Aside = Aside {
+    value: false,
+    partials: false,
+};
+
+// Of one kind: how many cases there are, how many differ, and of how many the value and the partials are not held to
+// the Rust's.
 pub struct Count {
     pub cases: u64,
     pub differ: u64,
     pub apart: u64,
+    pub tie: u64,
 }
 
 const NONE: Count = Count {
     cases: 0,
     differ: 0,
     apart: 0,
+    tie: 0,
 };
 
 pub struct Tally {
@@ -61,7 +75,7 @@ impl Tally {
     }
 
     // One more case of a kind.
-    pub(crate) fn next_case(mut self, kind: usize, agrees: bool, apart: bool) -> Tally {
+    pub(crate) fn next_case(mut self, kind: usize, agrees: bool, aside: Aside) -> Tally {
         if kind >= KINDS {
             return self;
         }
@@ -69,7 +83,8 @@ impl Tally {
         self.counts[kind] = Count {
             cases: raised(count.cases, true),
             differ: raised(count.differ, !agrees),
-            apart: raised(count.apart, apart),
+            apart: raised(count.apart, aside.value),
+            tie: raised(count.tie, aside.partials),
         };
         self
     }

@@ -70,8 +70,7 @@ pub(crate) fn is_supplied(kind: usize) -> bool {
     (kind == SUPPLIED_ONE) | (kind == SUPPLIED_TWO)
 }
 
-// Whether an operation answers one of its operands, max or min: at some of these its value is left out of the
-// comparison.
+// Whether an operation answers one of its operands, max or min: at some of these the Rust departs from the rule.
 pub(crate) fn chooses(kind: usize) -> bool {
     (kind == MAX) | (kind == MIN)
 }

@@ -200,7 +200,7 @@ fn moderate_between(node: Recording, i: usize, l: f64, r: f64) -> Recording
 }
 
 // Negation in place of an operation whose result would be large or small, or of a maximum or minimum of equals, whose
-// partials are a matter of their own.
+// left partial is not the Rust's.
 fn moderate(node: Recording, l: f64, r: f64) -> Recording
     requires { ⌜ (node .left ≤ most-nodes) × (node .right ≤ most-nodes) ⌝ }
     ensures { λ x. ⌜ (x .left ≤ most-nodes) × (x .right ≤ most-nodes) ⌝ }

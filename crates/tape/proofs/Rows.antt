@@ -82,7 +82,15 @@ every-row = (
 
 pub every-choice : EveryChoice
 unfolding step add sub mul div neg lt le ofInt ofBits toBits
-every-choice = ((refl, (refl, tt)), (refl, (refl, tt)), (refl, (refl, tt)), (refl, (refl, tt)))
+every-choice = (
+  (refl, (refl, tt)),
+  (refl, (refl, tt)),
+  (refl, (refl, tt)),
+  (refl, (refl, tt)),
+  (refl, (refl, tt)),
+  (refl, (refl, tt)),
+  (refl, (refl, tt)),
+)
 
 pub every-text : EveryText
 every-text = refl

@@ -68,8 +68,8 @@ rows {N} l r g =
     ∷ row (N .minus l r) (some I) (some (N .minus O I))
     ∷ row (N .times l r) (some r) (some l)
     ∷ row (N .over l r) (some (N .over I r)) (some (N .minus O (N .over l (N .times r r))))
-    ∷ row (cond (N .at-most r l) l r) (some (cond (N .less r l) I O)) (some (cond (N .less l r) I O))
-    ∷ row (cond (N .at-most l r) l r) (some (cond (N .less l r) I O)) (some (cond (N .less r l) I O))
+    ∷ row (cond (N .at-most r l) l r) (some (cond (N .at-most r l) I O)) (some (cond (N .less l r) I O))
+    ∷ row (cond (N .at-most l r) l r) (some (cond (N .at-most l r) I O)) (some (cond (N .less r l) I O))
     ∷ row (N .minus O l) (some (N .minus O I)) none
     ∷ row (g .value) (some (g .left)) none
     ∷ row (g .value) (some (g .left)) (some (g .right))

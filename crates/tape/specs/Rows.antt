@@ -166,14 +166,14 @@ P5 = record {
   sights = edge-counts (0 ∷ []) ∷ partials (float 7 ∷ float 7 ∷ []) ∷ [];
 }
 
--- P6 max of two leaves at 1: value 1, both partials 0
+-- P6 max of two leaves at 1: value 1, partials 1 and 0
 abbrev pub P6 : Row
 P6 = record {
   before = fresh (sevens 3);
   calls = move start ∷ leaf (float 1) ∷ leaf (float 1) ∷ max (node-at 0) (node-at 1) ∷ [];
   answers = done ∷ recorded (float 1) (first 0) ∷ recorded (float 1) (first 1) ∷ recorded (float 1) (first 2) ∷ [];
   sights =
-      edge-counts (0 ∷ 0 ∷ 2 ∷ []) ∷ partials (float 7 ∷ float 7 ∷ float 7 ∷ float 7 ∷ float 0 ∷ float 0 ∷ []) ∷ [];
+      edge-counts (0 ∷ 0 ∷ 2 ∷ []) ∷ partials (float 7 ∷ float 7 ∷ float 7 ∷ float 7 ∷ float 1 ∷ float 0 ∷ []) ∷ [];
 }
 
 -- a pass, with how many edges it visits, on x and x*x, passed back once before, then the mark, x*x*x, and x*x*x + x
@@ -343,23 +343,34 @@ rows =
 abbrev pub EveryRow : Type 0
 EveryRow = All rows
 
--- max and min of leaves l and r, of value v: neither is the greater, so both partials are 0
-abbrev pub chosen : ℕ → Float → Float → Float → Row
-chosen op l r v = record {
+-- max or min of leaves l and r: value v, left partial p and right partial q
+abbrev pub chosen : ℕ → Float → Float → Float → Float → Float → Row
+chosen op l r v p q = record {
   before = fresh (sevens 3);
   calls = move start ∷ leaf l ∷ leaf r ∷ binary op (node-at 0) (node-at 1) ∷ [];
   answers = done ∷ recorded l (first 0) ∷ recorded r (first 1) ∷ recorded v (first 2) ∷ [];
-  sights = partials (float 7 ∷ float 7 ∷ float 7 ∷ float 7 ∷ float 0 ∷ float 0 ∷ []) ∷ [];
+  sights = partials (float 7 ∷ float 7 ∷ float 7 ∷ float 7 ∷ p ∷ q ∷ []) ∷ [];
 }
 
--- where the Rust departs from the table, so that no run beside it compares the value: zeros of unlike sign, and a NaN
--- on the right. Proved in proofs/Rows.antt
+-- the two compare equal, be they zeros of unlike sign: the left operand, which pulls
+abbrev pub tied : ℕ → Float → Float → Row
+tied op l r = chosen op l r l (float 1) (float 0)
+
+-- a NaN on either side: the right operand, and neither pulls
+abbrev pub with-nan : ℕ → Float → Float → Row
+with-nan op l r = chosen op l r r (float 0) (float 0)
+
+-- where the Rust departs from the table, so that no run beside it compares all of the answer: ties, and a NaN on the
+-- right; with a NaN on the left it does not. Proved in proofs/Rows.antt
 abbrev pub EveryChoice : Type 0
 EveryChoice =
-    Holds (chosen MAX (neg (float 0)) (float 0) (neg (float 0)))
-    × Holds (chosen MIN (float 0) (neg (float 0)) (float 0))
-    × Holds (chosen MAX (float 1) nan nan)
-    × Holds (chosen MIN (float 1) nan nan)
+    Holds (tied MIN (float 1) (float 1))
+    × Holds (tied MAX (neg (float 0)) (float 0))
+    × Holds (tied MIN (float 0) (neg (float 0)))
+    × Holds (with-nan MAX (float 1) nan)
+    × Holds (with-nan MIN (float 1) nan)
+    × Holds (with-nan MAX nan (float 1))
+    × Holds (with-nan MIN nan (float 1))
 
 -- the header's numbers, where a listing of the rows has too few digits to tell. Proved in proofs/Rows.antt
 abbrev pub EveryText : Type 0

@@ -1,5 +1,5 @@
 //! Prints where the Rust's f64 tape departs from the rule that the port follows, each by a run:
-//! the values of max and min at NaNs and zeros, and pointers that outlive their node.
+//! the values of max and min at NaNs and zeros, their partials at ties, and pointers that outlive their node.
 
 use std::hint::black_box;
 
@@ -61,48 +61,58 @@ impl Choice {
         let partial = |one: bool| bits(f64::from(u8::from(one)));
         [
             bits(value),
-            partial((self.above)(l, r)),
+            partial((self.keeps_left)(l, r)),
             partial((self.above)(r, l)),
         ]
     }
 
-    /// One input: the rule's value, the Rust's at run time, and the Rust's where the compiler sees
+    /// One input: the rule's answer, the Rust's at run time, and the Rust's where the compiler sees
     /// the operands and may have reckoned with them itself.
     fn print(&self, class: &str, l: f64, r: f64, literal: Answer) {
         let (rust, rule) = (self.at_run_time(l, r), self.rule(l, r));
-        let (name, l, r) = (self.name, l.to_bits(), r.to_bits());
-        let departs = match (rust[0] == rule[0], literal[0] == rule[0]) {
-            (true, true) => "neither",
-            (false, true) => "rust",
-            (true, false) => "literal",
-            (false, false) => "both",
-        };
-        let partials = rust[1..] == rule[1..] && literal[1..] == rule[1..];
-        print!(
-            "{name}, {class}: l={l:016x} r={r:016x} rule={:016x} ",
-            rule[0]
-        );
-        print!("rust={:016x} literal={:016x} ", rust[0], literal[0]);
-        println!("departs={departs} partials_agree={partials}");
+        let (name, left, right) = (self.name, l.to_bits(), r.to_bits());
+        print!("{name}, {class}: l={left:016x} r={right:016x} ");
+        print!("rule={} ", said(rule));
+        print!("rust={} ", said(rust));
+        print!("literal={} ", said(literal));
+        let values = departing(rust[0] != rule[0], literal[0] != rule[0]);
+        let partials = departing(rust[1..] != rule[1..], literal[1..] != rule[1..]);
+        println!("values_depart={values} partials_depart={partials}");
     }
 
-    /// All pairs of special values and signalling NaNs: how many depart, and how many of these lie
-    /// outside the three classes.
+    /// All pairs of special values and signalling NaNs: how many depart in the value, how many of
+    /// these lie outside the three classes, how many depart in a partial, and at how many this is not exactly where the two tie.
     fn sweep(&self) {
-        let (mut pairs, mut values, mut outside, mut partials) = (0, 0, 0, 0);
+        let (mut pairs, mut values, mut outside, mut partials, mut untied) = (0, 0, 0, 0, 0);
         for (l, r) in sweep_pairs() {
             let (rust, rule) = (self.at_run_time(l, r), self.rule(l, r));
-            let departs = rust[0] != rule[0];
+            let (value, partial) = (rust[0] != rule[0], rust[1..] != rule[1..]);
             pairs += 1;
-            values += u32::from(departs);
-            outside += u32::from(departs && !in_a_class(l, r));
-            partials += u32::from(rust[1..] != rule[1..]);
+            values += u32::from(value);
+            outside += u32::from(value && !in_a_class(l, r));
+            partials += u32::from(partial);
+            untied += u32::from(partial != (l == r));
         }
+        let name = self.name;
         print!(
-            "{}, sweep: pairs={pairs} values_depart={values} ",
-            self.name
+            "{name}, sweep: pairs={pairs} values_depart={values} outside_the_classes={outside} "
         );
-        println!("outside_the_classes={outside} partials_depart={partials}");
+        println!("partials_depart={partials} other_than_the_ties={untied}");
+    }
+}
+
+/// The value and the two partials, as words.
+fn said(answer: Answer) -> String {
+    answer.map(|word| format!("{word:016x}")).join(",")
+}
+
+/// Which of the Rust's two answers departs.
+fn departing(rust: bool, literal: bool) -> &'static str {
+    match (rust, literal) {
+        (false, false) => "neither",
+        (true, false) => "rust",
+        (false, true) => "literal",
+        (true, true) => "both",
     }
 }
 
@@ -141,6 +151,7 @@ macro_rules! print_choice {
             ("unlike zeros", MINUS_ZERO, ZERO),
             ("left NaN", QUIET, 1.0),
             ("two NaNs", QUIET, QUIET),
+            ("tie", 1.0, 1.0),
         );
         $choice.sweep();
     };

@@ -10,7 +10,8 @@ use oracle::operations::{kinds_of, Kind};
 use oracle::random::Random;
 use oracle::request::Request;
 use oracle::session::{
-    Given, Move, Pass, Session, RESET_MARK, REWIND_TO_INIT, REWIND_TO_MARK, SET_MARK, START, STOP,
+    departs, Given, Move, Pass, Session, RESET_MARK, REWIND_TO_INIT, REWIND_TO_MARK, SET_MARK,
+    START, STOP,
 };
 
 fn temper(random: &mut Random) -> Temper {
@@ -32,7 +33,7 @@ struct Draft<'a> {
     detached: Vec<f64>,
 }
 
-impl Draft<'_> {
+impl<'a> Draft<'a> {
     fn call(&mut self) {
         if !Tape::is_active() && self.random.once_in(6) {
             return self.session.call(START);
@@ -61,16 +62,31 @@ impl Draft<'_> {
     }
 
     fn record(&mut self) {
-        let kind = &self.kinds[self.random.below(self.kinds.len() as u64) as usize];
-        let operands = kind.operands();
-        let mut given: Vec<Given> = Vec::new();
-        for _ in 0..operands {
-            let operand = self.operand(given.first().copied());
-            given.push(operand);
-        }
+        let (kind, given) = self.recording();
         let letters = letters(self.random, &given);
         let detached = self.session.record(kind, &letters, &given);
         self.detached.extend(detached);
+    }
+
+    /// An operation and its operands, drawn again where the Rust's max and min depart.
+    fn recording(&mut self) -> (&'a Kind, Vec<Given>) {
+        loop {
+            let kind = &self.kinds[self.random.below(self.kinds.len() as u64) as usize];
+            let given = self.operands(kind.operands());
+            let worth = |at: usize| self.session.worth(given[at]);
+            if !departs(kind.name, worth(0), worth(given.len() - 1)) {
+                return (kind, given);
+            }
+        }
+    }
+
+    fn operands(&mut self, count: usize) -> Vec<Given> {
+        let mut given: Vec<Given> = Vec::new();
+        for _ in 0..count {
+            let operand = self.operand(given.first().copied());
+            given.push(operand);
+        }
+        given
     }
 
     /// Now and then the same operand again, or a number as large as it.
@@ -166,22 +182,13 @@ fn sequence(random: &mut Random, kinds: &[Kind]) -> Session {
     draft.session
 }
 
-/// `count` sequences, without those in which max or min departs, whose values flow on.
 fn print_all(kinds: &[Kind], seed: u64, count: u64) -> io::Result<()> {
     let mut out = BufWriter::with_capacity(1 << 16, io::stdout().lock());
     let mut random = Random::new(seed);
-    let mut left_out = 0;
-    let mut printed = 0;
-    while printed < count {
+    for _ in 0..count {
         let session = sequence(&mut random, kinds);
-        if session.departed {
-            left_out += 1;
-        } else {
-            out.write_all(session.ended().as_bytes())?;
-            printed += 1;
-        }
+        out.write_all(session.ended().as_bytes())?;
     }
-    eprintln!("left out, since max or min departs: {left_out} sequences");
     out.flush()
 }
 
