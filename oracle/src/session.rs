@@ -296,8 +296,8 @@ impl Default for Session {
     }
 }
 
-/// The inputs of max and min that docs/DIFFERENCES.md names: ties, whose partials depart and, at two zeros of unlike
-/// sign, the value; and a NaN on the right alone, where the value does. Either flows on.
+/// The inputs of max and min that docs/DIFFERENCES.md names: ties, whose partials depart and, at two
+/// zeros of unlike sign, the value; and a NaN on the right alone, where the value does. Either flows on.
 #[must_use]
 pub fn departs(operation: &str, l: f64, r: f64) -> bool {
     matches!(operation, "max" | "min") && (l == r || (r.is_nan() && !l.is_nan()))

@@ -1,20 +1,30 @@
 -- Which of the laws hold of the values that a tape records, by its operations table: 1 is a sum, 2 a difference, 3 a
--- product, and 7 the negation, which is 0 - l. Proved in proofs/OnATape.antt.
+-- product, and 7 the negation, which is 0 - l; and that max and min choose as max_val and min_val do. Proved in
+-- proofs/OnATape.antt.
 use Prim.Native.Nat.{ℕ}
 use mathlib.Core.Path.{_≡_}
 use mathlib.Core.List.{[], _∷_}
+use mathlib.Core.Option.{some}
 use lib.Ieee.{Float, nan, neg}
-use Rattle.forward.specs.Forward.{nought}
+use Rattle.forward.specs.Forward.{Fwd, nought, constant, variable, derivative, max-val, min-val}
 use Rattle.tape.specs.Numbers.{floats}
-use Rattle.tape.specs.Operations.{apply}
+use Rattle.tape.specs.Operations.{Row, MAX, MIN, apply}
 use Rattle.laws.specs.Shown.{Changed}
 
--- the value of operation op; what the host supplies is not used by these four, and 7 does not use r
+-- the row of operation op; what the host supplies is not used by those named here
+abbrev pub row-of : ℕ → Float → Float → Row floats
+row-of op l r = apply op l r (record { value = nan; left = nan; right = nan })
+
+-- its value; 7 does not use r
 abbrev pub recorded : ℕ → Float → Float → Float
-recorded op l r = apply {N = floats} op l r (record { value = nan; left = nan; right = nan }) .value
+recorded op l r = row-of op l r .value
 
 abbrev pub negated : Float → Float
 negated l = recorded 7 l nan
+
+-- the derivative of a choice between two forward numbers, where the left one moves and the right one does not
+abbrev pub moved-left : (Fwd 1 → Fwd 1 → Fwd 1) → Float → Float → Float
+moved-left choose l r = derivative 1 1 (choose (variable 1 l) (constant 1 r))
 
 pub record OnATape : Type 0 where
   -- x + y and y + x
@@ -27,3 +37,6 @@ pub record OnATape : Type 0 where
   pub minus-is-not-plus-negated : Changed 0 (recorded 2 (neg nought) nought) (recorded 1 (neg nought) (negated nought)) (0x8000_0000_0000_0000 ∷ []) (0 ∷ [])
   -- nor -(-x) and x: at -0 they are +0 and -0
   pub not-negated-twice : Changed 0 (negated (negated (neg nought))) (neg nought) (0 ∷ []) (0x8000_0000_0000_0000 ∷ [])
+  -- the left partial is the derivative of max_val and min_val as the left operand moves: at a tie 1, as theirs
+  pub max-pulls-left : (l r : Float) → row-of MAX l r .left ≡ some (moved-left (max-val 1) l r)
+  pub min-pulls-left : (l r : Float) → row-of MIN l r .left ≡ some (moved-left (min-val 1) l r)

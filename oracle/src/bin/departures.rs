@@ -1,5 +1,6 @@
 //! Prints where the Rust's f64 tape departs from the rule that the port follows, each by a run:
-//! the values of max and min at NaNs and zeros, their partials at ties, and pointers that outlive their node.
+//! the values of max and min at NaNs and zeros, their partials at ties, and pointers that outlive
+//! their node.
 
 use std::hint::black_box;
 
@@ -81,7 +82,8 @@ impl Choice {
     }
 
     /// All pairs of special values and signalling NaNs: how many depart in the value, how many of
-    /// these lie outside the three classes, how many depart in a partial, and at how many this is not exactly where the two tie.
+    /// these lie outside the three classes, how many depart in a partial, and at how many it is not
+    /// so that a partial departs exactly where the two tie.
     fn sweep(&self) {
         let (mut pairs, mut values, mut outside, mut partials, mut untied) = (0, 0, 0, 0, 0);
         for (l, r) in sweep_pairs() {
