@@ -1,3 +1,4 @@
+pub mod Total
 pub mod Cells
 pub mod Index
 pub mod Parts

@@ -1,7 +1,9 @@
 // An interval in bit cells, and what it weighs in the misfit. `seen` is how long a cell is as the drive reads it, in
 // nominal cells of 80 ticks, which are 2,000 ns.
+ghost use Prim.Native.Nat.{_≤_};
 ghost use mathlib.Core.Path.{_≡_};
-ghost use Rattle.track.specs.Cells.{nearest-cells, weighed, off, total, of-length, one-if-off, cells-if-pulling};
+ghost use Rattle.track.specs.Cells.{boundaries, first-above, nearest-cells, root as Cells·root, clip as Cells·clip, weighed, off, of-length, one-if-off, cells-if-pulling};
+ghost use Rattle.track.specs.Total.{total};
 
 // An interval as it is recorded: the square of scaled - seen * root is what it is off, squared, over its cells; and the
 // clip is a quarter of a cell, squared, over its cells.
@@ -83,7 +85,9 @@ pub fn pulling_cells(ticks: &[u32], seen: f64) -> usize
 
 const CELL: f64 = 80.0;
 
-fn nearest(t: f64, seen: f64) -> usize {
+fn nearest(t: f64, seen: f64) -> usize
+    ensures { λ r. ⌜ r ≡ first-above seen t boundaries ⌝ }
+{
     if t < 1.5 * seen {
         return 1;
     }
@@ -109,7 +113,10 @@ fn nearest(t: f64, seen: f64) -> usize {
 }
 
 // The root of so many cells, to the nearest double.
-fn root(cells: usize) -> f64 {
+fn root(cells: usize) -> f64
+    requires { ⌜ (1 ≤ cells) × (cells ≤ 8) ⌝ }
+    ensures { λ r. ⌜ r ≡ Cells·root cells ⌝ }
+{
     match cells {
         1 => 1.0,
         2 => 1.4142135623730951,
@@ -123,7 +130,10 @@ fn root(cells: usize) -> f64 {
 }
 
 // A sixteenth over so many cells.
-fn clip(cells: usize) -> f64 {
+fn clip(cells: usize) -> f64
+    requires { ⌜ (1 ≤ cells) × (cells ≤ 8) ⌝ }
+    ensures { λ r. ⌜ r ≡ Cells·clip cells ⌝ }
+{
     match cells {
         1 => 1.0 / 16.0,
         2 => 1.0 / 32.0,

@@ -15,5 +15,5 @@ pub use index::is_apart;
 pub use index::median;
 pub use parts::PART;
 pub use parts::Part;
-pub use parts::part;
+pub use parts::part_at;
 pub use parts::part_count;

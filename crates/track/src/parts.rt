@@ -1,6 +1,6 @@
 // The parts of a turn that has more intervals than the tape has room for.
 ghost use mathlib.Core.Path.{_≡_};
-ghost use Rattle.track.specs.Parts.{part-count, part as Parts·part};
+ghost use Rattle.track.specs.Parts.{part-count, part};
 
 // How many intervals a part has at most.
 pub const PART: usize = 1_024;
@@ -22,8 +22,8 @@ pub fn part_count(intervals: usize) -> usize
 }
 
 // Part i of so many intervals, from 0 on. Past the last part it is empty, at the end.
-pub fn part(intervals: usize, i: usize) -> Part
-    ensures { λ r. ⌜ r ≡ Parts·part intervals i ⌝ }
+pub fn part_at(intervals: usize, i: usize) -> Part
+    ensures { λ r. ⌜ r ≡ part intervals i ⌝ }
 {
     if i >= part_count(intervals) {
         return Part {
