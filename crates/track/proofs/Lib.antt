@@ -1,2 +1,4 @@
 pub mod Totals
+pub mod Searched
+pub mod Lengths
 pub mod Covered

@@ -1,8 +1,7 @@
 -- By each arm.
-use native.Mathlib.Omega.{arith}
-use mathlib.Core.Path.{_≡_}
 use lib.Ieee.{div, ofInt, ofBits}
 use Rattle.track.specs.Cells.{clip}
+use Rattle.track.proofs.Lengths.{eight}
 use Rattle.track.proofs.cells.clip.Statement.{statement}
 use Rattle.track.proofs.cells.clip.Tie as tie
 
@@ -36,7 +35,7 @@ returns-7 c = rw (c .match .keys7)
 
 returns-8 : tie.Need-returns-8
 unfolding clip div ofInt ofBits
-returns-8 c = let e : c .before .args .cells ≡ 8 = omega arith in rw e
+returns-8 c = let (((((((_, a), b), c′), d), e), f), g) = c .match .rest in rw (eight (c .before .args .cells) (c .before .pre) a b c′ d e f g)
 
 pub clip-spec : {M : Type 1} → statement M
 clip-spec =

@@ -1,50 +1,39 @@
+-- A count of those that pass the test.
+use Prim.Native.Nat.{ℕ, _-_}
+use mathlib.Core.Bool.{Bool}
+use mathlib.Core.Logic.{⊎-elim}
+use borrow.Author.Needs.{needs}
+use borrow.Author.Tests.{eq-eqb, ne-eqb}
+use lib.Dec.{eqb}
+use lib.Ieee.{Float}
+use lib.ListN.{length}
+use Rattle.track.specs.Cells.{nearest-cells}
+use Rattle.track.proofs.Totals.{Counted, none-added, one-passed, one-failed, all-added}
 use Rattle.track.proofs.cells.count_cells.Statement.{statement}
 use Rattle.track.proofs.cells.count_cells.Tie as tie
-use Rattle.track.proofs.cells.count_cells.Reads as reads
-use Rattle.track.proofs.cells.count_cells.Lts as lts
-use Rattle.track.proofs.cells.nearest_cells.Reads as nearest-cells-reads
+
+abbrev passes : Float → ℕ → ℕ → Bool
+passes seen cells x = eqb (nearest-cells seen x) cells
 
 abbrev Inv-loop : tie.InvT-loop
-Inv-loop ticks seen cells count₀ i₀ i-end count i = ?
+Inv-loop ticks seen cells count₀ i₀ i-end count i = Counted (passes seen cells) ticks count i
 
 abbrev μ-loop : tie.MeasureT-loop
-μ-loop ticks seen cells count₀ i₀ i-end count i = ?
+μ-loop ticks seen cells count₀ i₀ i-end count i = length ticks - i
 
--- src/cells.rt:52:5
-loop-holds : tie.Need-loop-holds Inv-loop μ-loop
-loop-holds c = ?
-
--- src/cells.rt:53:26
-mul-nearest-cells : tie.Need-mul-nearest-cells Inv-loop μ-loop
-mul-nearest-cells c = ?
-
--- src/cells.rt:53:26
-shared-slice-read-nearest-cells : tie.Need-shared-slice-read-nearest-cells Inv-loop μ-loop
-shared-slice-read-nearest-cells c = ?
-
--- src/cells.rt:53:12
-nearest-cells-requires : tie.Need-nearest-cells-requires Inv-loop μ-loop
-nearest-cells-requires c κs = ?
-
--- src/cells.rt:54:13
-add-count : tie.Need-add-count Inv-loop μ-loop
-add-count c = ?
-
--- src/cells.rt:52:9
-add-i : tie.Need-add-i Inv-loop μ-loop
-add-i c = ?
-
--- src/cells.rt:52:5
-loop-less : tie.Need-loop-less Inv-loop μ-loop
-loop-less c = ?
-
--- src/cells.rt:52:5
 loop-again : tie.Need-loop-again Inv-loop μ-loop
-loop-again c = ?
+loop-again c =
+    let turn = c .before .before .before in
+    let a = turn .before .before .before .args in
+    let p = passes (a .seen) (a .cells) in
+    let known = c .before .nearest-cells .ensures in
+    ⊎-elim
+    (λ (test, e). one-passed p (turn .before .loop .inv) (turn .loop-test .taken) (rw (← known) (eq-eqb _ _ (test .taken))) e)
+    (λ (test, e). one-failed p (turn .before .loop .inv) (turn .loop-test .taken) (rw (← known) (ne-eqb _ _ (test .left))) e)
+    (c .if1 .came)
 
--- src/cells.rt:48:1
 returns : tie.Need-returns Inv-loop μ-loop
-returns c = ?
+returns c = all-added (c .before .loop .inv) (c .loop-test .left)
 
 pub count-cells-spec : {M : Type 1} → statement M
 count-cells-spec =
@@ -52,12 +41,7 @@ count-cells-spec =
     (tie.spec
     Inv-loop
     μ-loop
-    loop-holds
-    mul-nearest-cells
-    shared-slice-read-nearest-cells
-    nearest-cells-requires
-    add-count
-    add-i
-    loop-less
+    (λ c. none-added _ _ _)
+    (λ c. search needs) (λ c. search needs) (λ c κs. search needs) (λ c. search needs) (λ c. search needs) (λ c. search needs)
     loop-again
     returns)

@@ -1,50 +1,37 @@
+-- A count of those that pass the test.
+use Prim.Native.Nat.{ℕ, _-_}
+use mathlib.Core.Path.{sym, _∙_}
+use mathlib.Core.Bool.{Bool}
+use mathlib.Core.Logic.{⊎-elim}
+use borrow.Author.Needs.{needs}
+use lib.Ieee.{Float}
+use lib.ListN.{length}
+use Rattle.track.specs.Cells.{off}
+use Rattle.track.proofs.Totals.{Counted, none-added, one-passed, one-failed, all-added}
 use Rattle.track.proofs.cells.count_off.Statement.{statement}
 use Rattle.track.proofs.cells.count_off.Tie as tie
-use Rattle.track.proofs.cells.count_off.Reads as reads
-use Rattle.track.proofs.cells.count_off.Lts as lts
-use Rattle.track.proofs.cells.is_off.Reads as is-off-reads
+
+abbrev passes : Float → ℕ → Bool
+passes seen x = off seen x
 
 abbrev Inv-loop : tie.InvT-loop
-Inv-loop ticks seen count₀ i₀ i-end count i = ?
+Inv-loop ticks seen count₀ i₀ i-end count i = Counted (passes seen) ticks count i
 
 abbrev μ-loop : tie.MeasureT-loop
-μ-loop ticks seen count₀ i₀ i-end count i = ?
+μ-loop ticks seen count₀ i₀ i-end count i = length ticks - i
 
--- src/cells.rt:65:5
-loop-holds : tie.Need-loop-holds Inv-loop μ-loop
-loop-holds c = ?
-
--- src/cells.rt:66:19
-mul-is-off : tie.Need-mul-is-off Inv-loop μ-loop
-mul-is-off c = ?
-
--- src/cells.rt:66:19
-shared-slice-read-is-off : tie.Need-shared-slice-read-is-off Inv-loop μ-loop
-shared-slice-read-is-off c = ?
-
--- src/cells.rt:66:12
-is-off-requires : tie.Need-is-off-requires Inv-loop μ-loop
-is-off-requires c κs = ?
-
--- src/cells.rt:67:13
-add-count : tie.Need-add-count Inv-loop μ-loop
-add-count c = ?
-
--- src/cells.rt:65:9
-add-i : tie.Need-add-i Inv-loop μ-loop
-add-i c = ?
-
--- src/cells.rt:65:5
-loop-less : tie.Need-loop-less Inv-loop μ-loop
-loop-less c = ?
-
--- src/cells.rt:65:5
 loop-again : tie.Need-loop-again Inv-loop μ-loop
-loop-again c = ?
+loop-again c =
+    let turn = c .before .before .before in
+    let p = passes (turn .before .before .before .args .seen) in
+    let known = sym (c .before .is-off .ensures) in
+    ⊎-elim
+    (λ (test, e). one-passed p (turn .before .loop .inv) (turn .loop-test .taken) (known ∙ test .taken) e)
+    (λ (test, e). one-failed p (turn .before .loop .inv) (turn .loop-test .taken) (known ∙ test .left) e)
+    (c .if1 .came)
 
--- src/cells.rt:61:1
 returns : tie.Need-returns Inv-loop μ-loop
-returns c = ?
+returns c = all-added (c .before .loop .inv) (c .loop-test .left)
 
 pub count-off-spec : {M : Type 1} → statement M
 count-off-spec =
@@ -52,12 +39,7 @@ count-off-spec =
     (tie.spec
     Inv-loop
     μ-loop
-    loop-holds
-    mul-is-off
-    shared-slice-read-is-off
-    is-off-requires
-    add-count
-    add-i
-    loop-less
+    (λ c. none-added _ _ _)
+    (λ c. search needs) (λ c. search needs) (λ c κs. search needs) (λ c. search needs) (λ c. search needs) (λ c. search needs)
     loop-again
     returns)

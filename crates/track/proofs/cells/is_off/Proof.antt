@@ -1,17 +1,12 @@
+-- The rule's test, on the interval with its weight.
 use borrow.Author.Needs.{needs}
+use Rattle.track.specs.Cells.{off}
 use Rattle.track.proofs.cells.is_off.Statement.{statement}
 use Rattle.track.proofs.cells.is_off.Tie as tie
-use Rattle.track.proofs.cells.is_off.Reads as reads
-use Rattle.track.proofs.cells.is_off.Lts as lts
-use Rattle.track.proofs.cells.weigh.Reads as weigh-reads
 
--- src/cells.rt:42:9
-weigh-requires : tie.Need-weigh-requires
-weigh-requires c κs = search needs
-
--- src/cells.rt:39:1
 returns : tie.Need-returns
-returns c = ?
+unfolding off
+returns c = rw (c .before .before .before .weigh .ensures)
 
 pub is-off-spec : {M : Type 1} → statement M
-is-off-spec = tie.close (tie.spec weigh-requires returns)
+is-off-spec = tie.close (tie.spec (λ c κs. search needs) returns)

@@ -1,21 +1,12 @@
+-- The boundaries, on the ticks in cells.
 use borrow.Author.Needs.{needs}
+use Rattle.track.specs.Cells.{nearest-cells}
 use Rattle.track.proofs.cells.nearest_cells.Statement.{statement}
 use Rattle.track.proofs.cells.nearest_cells.Tie as tie
-use Rattle.track.proofs.cells.nearest_cells.Reads as reads
-use Rattle.track.proofs.cells.nearest_cells.Lts as lts
-use Rattle.track.proofs.cells.nearest.Reads as nearest-reads
 
--- src/cells.rt:21:13
-int-to-float-nearest : tie.Need-int-to-float-nearest
-int-to-float-nearest c = search needs
-
--- src/cells.rt:21:5
-nearest-requires : tie.Need-nearest-requires
-nearest-requires c κs = search needs
-
--- src/cells.rt:18:1
 returns : tie.Need-returns
-returns c = ?
+unfolding nearest-cells
+returns c = c .nearest .ensures
 
 pub nearest-cells-spec : {M : Type 1} → statement M
-nearest-cells-spec = tie.close (tie.spec int-to-float-nearest nearest-requires returns)
+nearest-cells-spec = tie.close (tie.spec (λ c. search needs) (λ c κs. search needs) returns)

@@ -1,58 +1,34 @@
+-- A search for the first that stands in the middle.
+use Prim.Native.Nat.{_-_}
+use mathlib.Core.Path.{sym, _∙_}
+use borrow.Author.Needs.{needs}
+use lib.ListN.{length}
+use Rattle.track.specs.Index.{middle, median}
+use Rattle.track.proofs.Searched.{Searched, none-searched, one-searched, found, none-found}
 use Rattle.track.proofs.index.median.Statement.{statement}
 use Rattle.track.proofs.index.median.Tie as tie
-use Rattle.track.proofs.index.median.Reads as reads
-use Rattle.track.proofs.index.median.Lts as lts
-use Rattle.track.proofs.index.is_middle.Reads as is-middle-reads
 
 abbrev Inv-loop : tie.InvT-loop
-Inv-loop times i₀ i-end i = ?
+Inv-loop times i₀ i-end i = Searched (middle times) times i
 
 abbrev μ-loop : tie.MeasureT-loop
-μ-loop times i₀ i-end i = ?
+μ-loop times i₀ i-end i = length times - i
 
--- src/index.rt:9:5
-loop-holds : tie.Need-loop-holds Inv-loop μ-loop
-loop-holds c = ?
-
--- src/index.rt:10:29
-mul-is-middle : tie.Need-mul-is-middle Inv-loop μ-loop
-mul-is-middle c = ?
-
--- src/index.rt:10:29
-shared-slice-read-is-middle : tie.Need-shared-slice-read-is-middle Inv-loop μ-loop
-shared-slice-read-is-middle c = ?
-
--- src/index.rt:10:12
-is-middle-requires : tie.Need-is-middle-requires Inv-loop μ-loop
-is-middle-requires c κs = ?
-
--- src/index.rt:11:20
-mul-result : tie.Need-mul-result Inv-loop μ-loop
-mul-result c = ?
-
--- src/index.rt:11:20
-shared-slice-read-result : tie.Need-shared-slice-read-result Inv-loop μ-loop
-shared-slice-read-result c = ?
-
--- src/index.rt:11:13
 returns : tie.Need-returns Inv-loop μ-loop
-returns c = ?
+unfolding median
+returns c =
+    let at-test = c .before .before in
+    let turn = at-test .before .before in
+    found (turn .before .loop .inv) (turn .loop-test .taken) (sym (at-test .is-middle .ensures) ∙ c .before .if1 .taken)
 
--- src/index.rt:9:9
-add-i : tie.Need-add-i Inv-loop μ-loop
-add-i c = ?
-
--- src/index.rt:9:5
-loop-less : tie.Need-loop-less Inv-loop μ-loop
-loop-less c = ?
-
--- src/index.rt:9:5
 loop-again : tie.Need-loop-again Inv-loop μ-loop
-loop-again c = ?
+loop-again c =
+    let turn = c .before .before .before in
+    one-searched (turn .before .loop .inv) (turn .loop-test .taken) (sym (c .before .is-middle .ensures) ∙ c .if1 .left)
 
--- src/index.rt:6:1
 returns-2 : tie.Need-returns-2 Inv-loop μ-loop
-returns-2 c = ?
+unfolding median
+returns-2 c = none-found (c .before .loop .inv) (c .loop-test .left)
 
 pub median-spec : {M : Type 1} → statement M
 median-spec =
@@ -60,14 +36,9 @@ median-spec =
     (tie.spec
     Inv-loop
     μ-loop
-    loop-holds
-    mul-is-middle
-    shared-slice-read-is-middle
-    is-middle-requires
-    mul-result
-    shared-slice-read-result
+    (λ c. none-searched _ _)
+    (λ c. search needs) (λ c. search needs) (λ c κs. search needs) (λ c. search needs) (λ c. search needs)
     returns
-    add-i
-    loop-less
+    (λ c. search needs) (λ c. search needs)
     loop-again
     returns-2)
