@@ -1,9 +1,9 @@
 -- A part lies within the intervals; and the first parts are the first intervals.
 use Prim.Native.Nat.{ℕ, zero, suc, _+_, _-_, _*_, _≤_, _<_, min}
 use native.Mathlib.Omega.{arith}
-use mathlib.Core.Path.{_≡_, refl, sym, ap, _∙_}
+use mathlib.Core.Path.{_≡_, sym, ap, _∙_}
 use mathlib.Core.List.{List, _++_}
-use lib.ListN.{length, take, drop, length-take, length-drop}
+use lib.ListN.{length, take, length-take, length-drop}
 use lib.Seq.{take-add, take-length}
 use Rattle.track.specs.declared.parts.Part.{Part}
 use Rattle.track.specs.Parts.{part-count, part}

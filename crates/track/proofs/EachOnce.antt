@@ -5,7 +5,6 @@ use mathlib.Core.Path.{_≡_, refl}
 use mathlib.Core.Bool.{cond}
 use mathlib.Core.List.{List, [], _∷_}
 use lib.Dec.{eqb}
-use lib.Ieee.{Float}
 use Rattle.track.specs.Total.{total}
 use Rattle.track.specs.Cells.{nearest-cells, of-length}
 use Rattle.track.specs.Laws.{lengths, EachOnce}

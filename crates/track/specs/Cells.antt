@@ -22,7 +22,7 @@ boundaries =
     0x3ff8_0000_0000_0000 ∷ 0x4004_0000_0000_0000 ∷ 0x400c_0000_0000_0000 ∷ 0x4012_0000_0000_0000
     ∷ 0x4016_0000_0000_0000 ∷ 0x401a_0000_0000_0000 ∷ 0x401e_0000_0000_0000 ∷ []
 
--- the number of the first boundary that a time is below, each in cells of the length that is seen
+-- the number of the first boundary that a time is below, in cells as long as is seen; if none, one more than there are
 abbrev pub first-above : Float → Float → List ℕ → ℕ
 first-above seen t [] = 1
 first-above seen t (b ∷ bs) = cond (lt t (mul binary64 (ofBits binary64 b) seen)) 1 (suc (first-above seen t bs))

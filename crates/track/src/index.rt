@@ -32,7 +32,8 @@ fn is_middle(times: &[u32], time: u32) -> bool
     ensures { λ r. ⌜ r ≡ middle (now (times .entry)) time ⌝ }
 {
     let n = times.len();
-    (count_below(times, time) < n - n / 2) & (n - n / 2 <= count_at_most(times, time))
+    let half = n - n / 2;
+    (count_below(times, time) < half) & (half <= count_at_most(times, time))
 }
 
 fn count_below(times: &[u32], time: u32) -> usize

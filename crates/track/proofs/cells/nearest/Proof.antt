@@ -7,10 +7,10 @@ nearest-spec =
     tie.close
     (tie.spec
     (λ c. rw (c .if1 .taken))
-    (λ c. rw (c .before .if1 .left, c .if2 .taken))
-    (λ c. rw (c .before .before .if1 .left, c .before .if2 .left, c .if3 .taken))
-    (λ c. rw (c .before .before .before .if1 .left, c .before .before .if2 .left, c .before .if3 .left, c .if4 .taken))
-    (λ c. rw (c .before .before .before .before .if1 .left, c .before .before .before .if2 .left, c .before .before .if3 .left, c .before .if4 .left, c .if5 .taken))
-    (λ c. rw (c .before .before .before .before .before .if1 .left, c .before .before .before .before .if2 .left, c .before .before .before .if3 .left, c .before .before .if4 .left, c .before .if5 .left, c .if6 .taken))
-    (λ c. rw (c .before .before .before .before .before .before .if1 .left, c .before .before .before .before .before .if2 .left, c .before .before .before .before .if3 .left, c .before .before .before .if4 .left, c .before .before .if5 .left, c .before .if6 .left, c .if7 .taken))
-    (λ c. rw (c .before .before .before .before .before .before .if1 .left, c .before .before .before .before .before .if2 .left, c .before .before .before .before .if3 .left, c .before .before .before .if4 .left, c .before .before .if5 .left, c .before .if6 .left, c .if7 .left)))
+    (λ c. let at1 = c .before in rw (at1 .if1 .left, c .if2 .taken))
+    (λ c. let at2 = c .before in let at1 = at2 .before in rw (at1 .if1 .left, at2 .if2 .left, c .if3 .taken))
+    (λ c. let at3 = c .before in let at2 = at3 .before in let at1 = at2 .before in rw (at1 .if1 .left, at2 .if2 .left, at3 .if3 .left, c .if4 .taken))
+    (λ c. let at4 = c .before in let at3 = at4 .before in let at2 = at3 .before in let at1 = at2 .before in rw (at1 .if1 .left, at2 .if2 .left, at3 .if3 .left, at4 .if4 .left, c .if5 .taken))
+    (λ c. let at5 = c .before in let at4 = at5 .before in let at3 = at4 .before in let at2 = at3 .before in let at1 = at2 .before in rw (at1 .if1 .left, at2 .if2 .left, at3 .if3 .left, at4 .if4 .left, at5 .if5 .left, c .if6 .taken))
+    (λ c. let at6 = c .before in let at5 = at6 .before in let at4 = at5 .before in let at3 = at4 .before in let at2 = at3 .before in let at1 = at2 .before in rw (at1 .if1 .left, at2 .if2 .left, at3 .if3 .left, at4 .if4 .left, at5 .if5 .left, at6 .if6 .left, c .if7 .taken))
+    (λ c. let at6 = c .before in let at5 = at6 .before in let at4 = at5 .before in let at3 = at4 .before in let at2 = at3 .before in let at1 = at2 .before in rw (at1 .if1 .left, at2 .if2 .left, at3 .if3 .left, at4 .if4 .left, at5 .if5 .left, at6 .if6 .left, c .if7 .left)))

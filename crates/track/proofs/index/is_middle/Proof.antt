@@ -11,4 +11,4 @@ returns c = rw (← c .before .count-below .ensures, ← c .count-at-most .ensur
 pub is-middle-spec : {M : Type 1} → statement M
 is-middle-spec =
     tie.close
-    (tie.spec (λ c κs. search needs) (λ c. search needs) (λ c. search needs) (λ c κs. search needs) returns)
+    (tie.spec (λ c. search needs) (λ c κs. search needs) (λ c κs. search needs) returns)
