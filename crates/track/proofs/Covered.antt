@@ -17,6 +17,9 @@ part-of n i d e = rw (d, e)
 pub within : (n i : ℕ) → (part n i .from ≤ part n i .end) × (part n i .end ≤ n)
 within n i = (omega arith, omega arith)
 
+pub within-of : {p : Part} (n i : ℕ) → p ≡ part n i → (p .from ≤ p .end) × (p .end ≤ n)
+within-of n i e = rw e (within n i)
+
 length-piece : (xs : List ℕ) (i : ℕ) → length (piece xs i) ≡ part (length xs) i .end - part (length xs) i .from
 length-piece xs i = simp (length-take, length-drop) (omega arith)
 

@@ -11,6 +11,8 @@ every-root = refl
 pub every-row : EveryRow
 unfolding nearest-cells root clip weighed off below at-most middle median apart sub mul div lt le ofInt ofBits
 every-row = record {
+  ticks-of-a-cell = refl;
+  halfway-between = refl;
   two-cells = refl;
   four-cells = refl;
   below-halfway = refl;

@@ -12,9 +12,13 @@ use Rattle.track.specs.declared.cells.Weighed.{Weighed}
 abbrev pub float : ℕ → Float
 float n = ofInt binary64 (pos n)
 
--- ticks in nominal cells, of which each has 80.0
+-- 80.0, the ticks of a nominal cell
+abbrev pub cell : Float
+cell = ofBits binary64 0x4054_0000_0000_0000
+
+-- ticks in nominal cells
 abbrev pub in-cells : ℕ → Float
-in-cells ticks = div binary64 (float ticks) (ofBits binary64 0x4054_0000_0000_0000)
+in-cells ticks = div binary64 (float ticks) cell
 
 -- 1.5, 2.5, 3.5, 4.5, 5.5, 6.5, 7.5: from the k-th on there are more than k cells
 abbrev pub boundaries : List ℕ

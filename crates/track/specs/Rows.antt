@@ -3,10 +3,10 @@
 use Prim.Native.Nat.{ℕ, suc, _+_, _-_, _*_, _/_, _%_, _^_}
 use mathlib.Core.Path.{_≡_}
 use mathlib.Core.Bool.{Bool, true, false, _&&_}
-use mathlib.Core.List.{List, [], _∷_}
+use mathlib.Core.List.{List, [], _∷_, map}
 use lib.Dec.{ltb}
-use lib.Ieee.{Float, binary64, ofBits}
-use Rattle.track.specs.Cells.{nearest-cells, roots, off}
+use lib.Ieee.{Float, binary64, div, ofBits}
+use Rattle.track.specs.Cells.{float, cell, boundaries, nearest-cells, roots, off}
 use Rattle.track.specs.Index.{median, apart}
 use Rattle.track.specs.Parts.{part-count, part}
 
@@ -27,9 +27,11 @@ EveryRoot = roots-from 1 roots ≡ true
 
 -- cells as long as they nominally are
 abbrev pub one : Float
-one = ofBits binary64 0x3ff0_0000_0000_0000
+one = float 1
 
 pub record EveryRow : Type 0 where
+  pub ticks-of-a-cell : cell ≡ float 80
+  pub halfway-between : map (ofBits binary64) boundaries ≡ map (λ n. div binary64 (float n) (float 2)) (3 ∷ 5 ∷ 7 ∷ 9 ∷ 11 ∷ 13 ∷ 15 ∷ [])
   pub two-cells : nearest-cells one 168 ≡ 2
   pub four-cells : nearest-cells one 312 ≡ 4
   pub below-halfway : nearest-cells one 119 ≡ 1
