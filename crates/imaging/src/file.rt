@@ -1,9 +1,10 @@
-// A file, read piece by piece and cut into lines.
-use crate::flux;
+// A file, opened, read piece by piece and cut into lines. Its first bytes decide the reader: there is one, of texts
+// (lines.rt), and another would hand its turns over in the same way (flux.rt).
 use crate::flux::Ends;
 use crate::flux::Fault;
 use crate::flux::Reading;
 use crate::flux::Times;
+use crate::lines;
 ghost use Prim.Native.Nat.{_≤_};
 ghost use Rattle.imaging.specs.Flux.{Within};
 
@@ -16,15 +17,33 @@ struct Progress {
     pending: usize,
 }
 
-pub(crate) fn read(file: i32, times: &mut Times, ends: &mut Ends, ticks: &mut [u32]) -> Reading
+pub(crate) fn read(name: &[u8], times: &mut Times, ends: &mut Ends, ticks: &mut [u32]) -> Reading
     ensures { λ r. ⌜ Within r ⌝ }
 {
+    let file = os::open_read(name);
     if file < 0 {
-        return Reading::new().faulty(Fault::Unreadable, 1);
+        return unreadable();
     }
     let reading = read_all(file, times, ends, ticks);
     libc::close(file);
     reading.ended()
+}
+
+// Why the last call on a file failed.
+fn unreadable() -> Reading
+    ensures { λ r. ⌜ Within r ⌝ }
+{
+    let error = os::errno();
+    if (error == libc::ENOENT) | (error == libc::ENOTDIR) {
+        return Reading::new().this_line(Fault::Missing);
+    }
+    if (error == libc::EACCES) | (error == libc::EPERM) {
+        return Reading::new().this_line(Fault::Denied);
+    }
+    if error == libc::EISDIR {
+        return Reading::new().this_line(Fault::Folder);
+    }
+    Reading::new().this_line(Fault::Unreadable)
 }
 
 // A proved loop has to end, and nothing says that a file does. So the loop counts its turns down, from a number that no
@@ -47,7 +66,7 @@ fn read_all(file: i32, times: &mut Times, ends: &mut Ends, ticks: &mut [u32]) ->
         }
         let got = libc::read(file, piece);
         if got < 0 {
-            return Reading::new().faulty(Fault::Unreadable, 1);
+            return unreadable();
         }
         if got == 0 {
             break;
@@ -95,14 +114,14 @@ fn take_byte(
     let reading = before.reading;
     let pending = before.pending;
     if byte == b'\n' {
-        let reading = flux::take_line(reading, &line[..pending], times, ends, ticks);
+        let reading = lines::take_line(reading, &line[..pending], times, ends, ticks);
         return Progress {
             reading,
             pending: 0,
         };
     }
     if pending == line.len() {
-        let reading = reading.this_line(Fault::NoNumber);
+        let reading = lines::no_entry(reading, line);
         return Progress { reading, pending };
     }
     line[pending] = byte;
@@ -131,7 +150,7 @@ fn last_line(
     if reading.fault_line > 0 {
         return reading;
     }
-    flux::take_line(reading, &line[..pending], times, ends, ticks)
+    lines::take_line(reading, &line[..pending], times, ends, ticks)
 }
 
 impl Progress {

@@ -1,28 +1,31 @@
-// The fit: steps down the gradient of the misfit of all revolutions.
+// The fit: steps to the least misfit of all turns.
 use crate::flux::Ends;
 use crate::flux::Reading;
 use crate::flux::Times;
 use crate::model;
 use crate::model::Drive;
+use crate::model::MODEL_NODES;
 use crate::model::Made;
 use crate::model::Model;
-use crate::report;
-use crate::revolution;
-use crate::revolution::Turned;
+use crate::turn;
+use crate::turn::INDEX_NODES;
+use crate::turn::INTERVAL_NODES;
+use crate::turn::Index;
+use crate::turn::TURN;
+use crate::turn::Turned;
 use dual::Cleared;
 use dual::Read;
 use tape::MOST_EDGES;
-use tape::MOST_NODES;
 use tape::Tape;
 ghost use Prim.Native.Nat.{_≤_};
 ghost use Rattle.imaging.specs.Flux.{Within};
 
-const SLOTS: usize = MOST_EDGES * MOST_NODES;
+// The tape has room for the model and one part of a turn. A small one stays in the processor's cache.
+const NODES: usize = MODEL_NODES + INDEX_NODES + INTERVAL_NODES * track::PART;
 
-const MOST_STEPS: usize = 512;
+const SLOTS: usize = MOST_EDGES * NODES;
 
-// How much an interval of 4 cells pulls, the longest that MFM has: its cells, squared. An index time weighs as much.
-const LONGEST_PULL: f64 = 16.0;
+pub const MOST_STEPS: usize = 64;
 
 // A move of either parameter that is less than this no longer shows in what is written.
 const SETTLED: f64 = 1.0 / 268_435_456.0;
@@ -38,7 +41,23 @@ pub struct Step {
     pub refusal: u8,
 }
 
-// Where a step is taken, its model, and what its revolutions came to.
+// The steps that were taken, in order, and the last of them.
+pub struct Steps {
+    pub taken: usize,
+    pub last: Step,
+    pub misfit: [f64; MOST_STEPS],
+    pub speed: [f64; MOST_STEPS],
+    pub cell: [f64; MOST_STEPS],
+    pub edges: [u64; MOST_STEPS],
+}
+
+// How much pulls: turns whose index time does, and the cells of the intervals that do.
+struct Pull {
+    turns: f64,
+    cells: f64,
+}
+
+// Where a step is taken, its model, and what its turns came to.
 struct Gathered {
     drive: Drive,
     model: Model,
@@ -51,16 +70,17 @@ struct Slope {
     refusal: u8,
 }
 
-pub(crate) fn fit(name: &[u8], reading: Reading, times: &Times, ends: &Ends, ticks: &[u32])
+// All steps, from the speed of the median index time and nominal cells on.
+pub(crate) fn fit(reading: Reading, times: &Times, ends: &Ends, ticks: &[u32], median: u32) -> Steps
     requires { ⌜ Within reading ⌝ }
 {
-    let mut value = [0.0; MOST_NODES];
-    let mut adjoint = [0.0; MOST_NODES];
-    let mut serial = [0u64; MOST_NODES];
-    let mut count = [0u8; MOST_NODES];
+    let mut value = [0.0; NODES];
+    let mut adjoint = [0.0; NODES];
+    let mut serial = [0u64; NODES];
+    let mut count = [0u8; NODES];
     let mut child = [0u16; SLOTS];
     let mut partial = [0.0; SLOTS];
-    let last = run(
+    run(
         &mut value,
         &mut adjoint,
         &mut serial,
@@ -71,18 +91,10 @@ pub(crate) fn fit(name: &[u8], reading: Reading, times: &Times, ends: &Ends, tic
         times,
         ends,
         ticks,
-    );
-    let read = least(reading.intervals, ticks.len());
-    let fitted = last.next;
-    report::end(
-        name,
-        last,
-        reading,
-        revolution::count_clipped(&ticks[..read], fitted),
-    );
+        median,
+    )
 }
 
-// The last step, or the one that was refused.
 fn run(
     value: &mut [f64],
     adjoint: &mut [f64],
@@ -94,16 +106,18 @@ fn run(
     times: &Times,
     ends: &Ends,
     ticks: &[u32],
-) -> Step
+    median: u32,
+) -> Steps
     requires { ⌜ Within reading ⌝ }
 {
-    let mut step = Step::none();
+    let mut steps = Steps::none(median);
     for i in 0..MOST_STEPS {
-        if step.is_over() {
+        let before = steps.last;
+        if before.is_over() {
             break;
         }
-        step = take_step(
-            step,
+        let step = take_step(
+            before,
             value,
             adjoint,
             serial,
@@ -114,15 +128,16 @@ fn run(
             times,
             ends,
             ticks,
+            median,
         );
-        report::step(i + 1, step);
+        steps = steps.with(i, step);
     }
-    step
+    steps
 }
 
-// A step makes the calls of document 01's demand 3, in its order: start, the model, mark, clear; for each revolution
-// its misfit, the pass to the mark, the rewind; at last the pass from the mark to the start.
-// So the two adjoints that it reads are those of one long tape of all revolutions
+// A step makes the calls of document 01's demand 3, in its order: start, the model, mark, clear; for each part of each
+// turn its misfit, the pass to the mark, the rewind; at last the pass from the mark to the start.
+// So the two adjoints that it reads are those of one long tape of all turns
 // (crates/revolutions/specs/Revolutions.antt).
 fn take_step(
     before: Step,
@@ -136,6 +151,7 @@ fn take_step(
     times: &Times,
     ends: &Ends,
     ticks: &[u32],
+    median: u32,
 ) -> Step
     requires { ⌜ Within reading ⌝ }
 {
@@ -151,7 +167,9 @@ fn take_step(
         times,
         ends,
         ticks,
+        median,
     );
+    let drive = before.next;
     finish(
         gathered,
         value,
@@ -161,6 +179,7 @@ fn take_step(
         child,
         partial,
         reading.intervals,
+        pull(reading, times, ticks, median, drive),
     )
 }
 
@@ -177,6 +196,7 @@ fn gather(
     times: &Times,
     ends: &Ends,
     ticks: &[u32],
+    median: u32,
 ) -> Gathered
     requires { ⌜ revolutions ≤ 64 ⌝ }
 {
@@ -196,6 +216,7 @@ fn gather(
         times,
         ends,
         ticks,
+        median,
     );
     gathered.turned = turned;
     gathered
@@ -259,6 +280,7 @@ fn turn_all(
     times: &Times,
     ends: &Ends,
     ticks: &[u32],
+    median: u32,
 ) -> Turned
     requires { ⌜ revolutions ≤ 64 ⌝ }
 {
@@ -266,7 +288,7 @@ fn turn_all(
     for i in 0..revolutions {
         let end = least(ends[i + 1], ticks.len());
         let from = least(ends[i], end);
-        turned = revolution::turn(
+        turned = turn::turn(
             turned,
             value,
             adjoint,
@@ -275,20 +297,51 @@ fn turn_all(
             child,
             partial,
             model,
-            times[i],
+            index(times[i], median),
             &ticks[from..end],
         );
     }
     turned
 }
 
-fn least(a: usize, b: usize) -> usize
+pub(crate) fn least(a: usize, b: usize) -> usize
     ensures { λ r. ⌜ (r ≤ a) × (r ≤ b) ⌝ }
 {
     if a < b { a } else { b }
 }
 
-// The last pass, and a step down the slope that it leaves at the parameters.
+fn index(time: u32, median: u32) -> Index {
+    if track::is_apart(time, median) {
+        return Index::Nothing;
+    }
+    Index::Pulls(time)
+}
+
+fn pull(reading: Reading, times: &Times, ticks: &[u32], median: u32, drive: Drive) -> Pull
+    requires { ⌜ Within reading ⌝ }
+{
+    let read = least(reading.intervals, ticks.len());
+    let cells = track::pulling_cells(&ticks[..read], drive.seen());
+    let turns = pulling_turns(reading.revolutions, times, median);
+    Pull {
+        turns: std::num::nearest_u64_to_f64(turns),
+        cells: std::num::nearest_u64_to_f64(cells as u64),
+    }
+}
+
+fn pulling_turns(revolutions: usize, times: &Times, median: u32) -> u64
+    requires { ⌜ revolutions ≤ 64 ⌝ }
+{
+    let mut turns = 0;
+    for i in 0..revolutions {
+        if !track::is_apart(times[i], median) {
+            turns = std::num::wrapping_add_u64(turns, 1);
+        }
+    }
+    turns
+}
+
+// The last pass, and the step that the slope leads to which it leaves at the parameters.
 fn finish(
     gathered: Gathered,
     value: &mut [f64],
@@ -298,6 +351,7 @@ fn finish(
     child: &mut [u16],
     partial: &mut [f64],
     intervals: usize,
+    pull: Pull,
 ) -> Step {
     let before = gathered.turned;
     let tape = before.tape;
@@ -326,6 +380,7 @@ fn finish(
         model,
         drive,
         intervals,
+        pull,
     )
 }
 
@@ -340,6 +395,7 @@ fn step_down(
     model: Model,
     drive: Drive,
     intervals: usize,
+    pull: Pull,
 ) -> Step {
     let tape = turned.tape;
     let speed = model.speed;
@@ -361,6 +417,7 @@ fn step_down(
         drive,
         slope_of(by_speed),
         slope_of(by_cell),
+        pull,
     )
 }
 
@@ -374,24 +431,57 @@ fn slope_of(read: Read) -> Slope {
     }
 }
 
+impl Steps {
+    // Before the first step.
+    fn none(median: u32) -> Steps {
+        let start = Drive {
+            speed: TURN / median as f64,
+            cell: 1.0,
+        };
+        let last = Step::to(start);
+        let misfit = [0.0; MOST_STEPS];
+        let speed = [0.0; MOST_STEPS];
+        let cell = [0.0; MOST_STEPS];
+        let edges = [0u64; MOST_STEPS];
+        Steps {
+            taken: 0,
+            last,
+            misfit,
+            speed,
+            cell,
+            edges,
+        }
+    }
+
+    // Step i, counted from 0.
+    fn with(mut self, i: usize, step: Step) -> Steps
+        requires { ⌜ i ≤ 63 ⌝ }
+    {
+        let drive = step.drive;
+        self.taken = i + 1;
+        self.last = step;
+        self.misfit[i] = step.misfit;
+        self.speed[i] = drive.speed;
+        self.cell[i] = drive.cell;
+        self.edges[i] = step.edges;
+        self
+    }
+}
+
 impl Step {
-    // Before the first step, which is taken at nominal settings.
-    fn none() -> Step {
+    // Before the first step, which is taken there.
+    fn to(next: Drive) -> Step {
         let tape = Tape::new();
         let nowhere = Drive {
             speed: 0.0,
             cell: 0.0,
-        };
-        let nominal = Drive {
-            speed: 1.0,
-            cell: 1.0,
         };
         Step {
             tape,
             drive: nowhere,
             misfit: 0.0,
             edges: 0,
-            next: nominal,
+            next,
             refusal: 0,
         }
     }
@@ -413,18 +503,14 @@ impl Step {
         drive: Drive,
         by_speed: Slope,
         by_cell: Slope,
+        pull: Pull,
     ) -> Step {
         let tape = turned.tape;
-        let all = std::num::nearest_u64_to_f64(intervals as u64);
-        let steep = all * steepest(drive);
-        let next = Drive {
-            speed: drive.speed - by_speed.x / steep,
-            cell: drive.cell - by_cell.x / steep,
-        };
+        let next = drive.moved(by_speed.x, by_cell.x, pull);
         Step {
             tape,
             drive,
-            misfit: turned.misfit / all,
+            misfit: turned.misfit / std::num::nearest_u64_to_f64(intervals as u64),
             edges: turned.edges,
             next,
             refusal: first(turned.refusal, first(by_speed.refusal, by_cell.refusal)),
@@ -432,7 +518,11 @@ impl Step {
     }
 
     fn refused(refusal: u8) -> Step {
-        let mut step = Step::none();
+        let nowhere = Drive {
+            speed: 0.0,
+            cell: 0.0,
+        };
+        let mut step = Step::to(nowhere);
         step.refusal = refusal;
         step
     }
@@ -446,11 +536,34 @@ fn is_small(x: f64) -> bool {
     (x < SETTLED) & (0.0 - x < SETTLED)
 }
 
-// No direction is steeper, an interval, than the two parameters' curvatures together: a step of the gradient over this
-// much overshoots on no track of MFM.
-fn steepest(drive: Drive) -> f64 {
-    let turn = 1.0 / drive.speed;
-    let by_cell = turn * turn;
-    let by_speed = by_cell * by_cell * (drive.cell * drive.cell + 1.0);
-    2.0 * LONGEST_PULL * (by_speed + by_cell)
+impl Drive {
+    // How long a cell is as this drive reads it, as the model records it.
+    pub(crate) fn seen(self) -> f64 {
+        self.cell * (1.0 / self.speed)
+    }
+
+    // A Gauss-Newton step. Of what pulls, the misfit is a parabola in the time of a turn, of curvature 2 * turns, and
+    // one in the length of a cell as it is read, of curvature 2 * cells; so the slopes by speed and cell are turned into
+    // slopes by these two, each is taken to the bottom of its parabola, and the two moves into moves of speed and cell,
+    // all by the model's own derivatives.
+    fn moved(self, by_speed: f64, by_cell: f64, pull: Pull) -> Drive {
+        let turn = 1.0 / self.speed;
+        let by_seen = by_cell / turn;
+        let by_turn = 0.0 - by_speed / (turn * turn) - self.cell * by_seen;
+        let turn_move = 0.0 - by_turn / (2.0 * pull.turns);
+        let seen_move = bottom(by_seen, pull.cells);
+        let speed_move = 0.0 - turn_move / (turn * turn);
+        Drive {
+            speed: self.speed + speed_move,
+            cell: self.cell + seen_move / turn + self.cell * turn * speed_move,
+        }
+    }
+}
+
+// Where nothing pulls, nothing moves.
+fn bottom(slope: f64, pull: f64) -> f64 {
+    if pull > 0.0 {
+        return 0.0 - slope / (2.0 * pull);
+    }
+    0.0
 }

@@ -44,7 +44,7 @@ pub struct Model {
     pub seen: Made,
 }
 
-const NODES: usize = 4;
+pub const MODEL_NODES: usize = 4;
 
 pub(crate) fn record_model(
     start: Made,
@@ -57,7 +57,7 @@ pub(crate) fn record_model(
     drive: Drive,
 ) -> Model {
     let mut model = Model::none(start);
-    for i in 0..NODES {
+    for i in 0..MODEL_NODES {
         let last = model.seen;
         let made = record(
             last,

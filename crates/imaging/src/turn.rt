@@ -1,6 +1,5 @@
-// One revolution: its misfit is recorded behind the mark, passed back to it, and dropped.
+// A turn, part by part: the misfit of a part is recorded behind the mark, passed back to it, and dropped.
 use crate::model;
-use crate::model::Drive;
 use crate::model::Made;
 use crate::model::Model;
 use crate::model::Operation;
@@ -9,30 +8,33 @@ use tape::Moved;
 use tape::Operand;
 use tape::Refusal;
 use tape::Tape;
+use track::Weighed;
 ghost use Prim.Native.Nat.{_≤_};
 ghost use lib.ListN.{length};
 
-// Nominal: a turn at 300 rpm, and a bit cell of 2,000 ns, in ticks of 25 ns.
-const TURN: f64 = 8_000_000.0;
+// The nodes of an index time and of an interval.
+pub const INDEX_NODES: usize = 2;
 
-const CELL: f64 = 80.0;
+pub const INTERVAL_NODES: usize = 5;
 
-// How much an index time counts, against each interval of its revolution.
-const INDEX_WEIGHT: f64 = 16.0;
+// Nominal: a turn at 300 rpm, in ticks of 25 ns.
+pub const TURN: f64 = 8_000_000.0;
 
-// A quarter of a cell, squared: no interval adds more, however weak its bit.
-const CLIP: f64 = 0.0625;
-
-const MOST_CELLS: u32 = 8;
-
-// A part of a misfit: the time of a turn as modelled and as measured, with its weight; or the sum so far, a cell as
-// this drive reads it, an interval in nominal cells and the cells in it.
-enum Part {
-    Index(Operand, f64, f64),
-    Interval(Operand, Operand, f64, f64),
+// An index time that pulls, or none.
+pub enum Index {
+    Pulls(u32),
+    Nothing,
 }
 
-// What revolutions came to, and the tape after them; or the first refusal, after which nothing is done.
+// A term of a misfit: an index time in turns, beside the time of a turn as modelled; or the sum so far, a cell as this
+// drive reads it, and an interval.
+enum Term {
+    Nothing,
+    Index(Operand, f64),
+    Interval(Operand, Operand, Weighed),
+}
+
+// What turns came to, and the tape after them; or the first refusal, after which nothing is done.
 pub struct Turned {
     pub tape: Tape,
     pub misfit: f64,
@@ -40,6 +42,7 @@ pub struct Turned {
     pub refusal: u8,
 }
 
+// The last part first: the walk then meets the intervals in the same order as if the turn were one part.
 pub(crate) fn turn(
     before: Turned,
     value: &mut [f64],
@@ -49,7 +52,42 @@ pub(crate) fn turn(
     child: &mut [u16],
     partial: &mut [f64],
     model: Model,
-    time: u32,
+    index: Index,
+    ticks: &[u32],
+) -> Turned {
+    let mut turned = before;
+    let parts = track::part_count(ticks.len());
+    for passed in 0..parts {
+        let left = parts - 1 - passed;
+        let part = track::part(ticks.len(), left);
+        let from = part.from;
+        let end = part.end;
+        turned = turn_part(
+            turned,
+            value,
+            adjoint,
+            serial,
+            count,
+            child,
+            partial,
+            model,
+            index.of_part(left),
+            &ticks[from..end],
+        );
+    }
+    turned
+}
+
+fn turn_part(
+    before: Turned,
+    value: &mut [f64],
+    adjoint: &mut [f64],
+    serial: &mut [u64],
+    count: &mut [u8],
+    child: &mut [u16],
+    partial: &mut [f64],
+    model: Model,
+    index: Index,
     ticks: &[u32],
 ) -> Turned {
     if before.refusal > 0 {
@@ -65,7 +103,7 @@ pub(crate) fn turn(
         child,
         partial,
         model,
-        time,
+        index,
         ticks,
     );
     pass_back(
@@ -120,39 +158,35 @@ fn record_misfit(
     child: &mut [u16],
     partial: &mut [f64],
     model: Model,
-    time: u32,
+    index: Index,
     ticks: &[u32],
 ) -> Made {
     let mut sum = Made::nothing(tape);
     for i in 0..=ticks.len() {
-        let part = part_at(i, sum, model, time, ticks);
-        sum = record_part(sum, value, adjoint, serial, count, child, partial, part);
+        let term = term_at(i, sum, model, index, ticks);
+        sum = record_term(sum, value, adjoint, serial, count, child, partial, term);
     }
     sum
 }
 
-fn part_at(i: usize, sum: Made, model: Model, time: u32, ticks: &[u32]) -> Part
+fn term_at(i: usize, sum: Made, model: Model, index: Index, ticks: &[u32]) -> Term
     requires { ⌜ i ≤ length (now ticks) ⌝ }
 {
     let turn = model.turn;
     let seen = model.seen;
     if i == 0 {
-        return Part::Index(turn, time as f64 / TURN, weight(ticks.len()));
+        return index.term(turn);
     }
-    interval(sum, seen, ticks[i - 1] as f64 / CELL)
+    interval(sum, seen, ticks[i - 1])
 }
 
-fn weight(intervals: usize) -> f64 {
-    INDEX_WEIGHT * std::num::nearest_u64_to_f64(intervals as u64)
-}
-
-fn interval(sum: Made, seen: Made, t: f64) -> Part {
+fn interval(sum: Made, seen: Made, ticks: u32) -> Term {
     let total = sum.x;
     let cell = seen.x;
-    Part::Interval(total, cell, t, nearest_cells(t, seen.number))
+    Term::Interval(total, cell, track::weigh(ticks, seen.number))
 }
 
-fn record_part(
+fn record_term(
     before: Made,
     value: &mut [f64],
     adjoint: &mut [f64],
@@ -160,10 +194,10 @@ fn record_part(
     count: &mut [u8],
     child: &mut [u16],
     partial: &mut [f64],
-    part: Part,
+    term: Term,
 ) -> Made {
     let mut made = before;
-    for i in 0..operations(part) {
+    for i in 0..operations(term) {
         let last = made.x;
         made = model::record(
             made,
@@ -173,83 +207,74 @@ fn record_part(
             count,
             child,
             partial,
-            operation(part, i, last),
+            operation(term, i, last),
         );
     }
     made
 }
 
-fn operations(part: Part) -> usize {
-    match part {
-        Part::Index(_, _, _) => 3,
-        Part::Interval(_, _, _, _) => 5,
+fn operations(term: Term) -> usize {
+    match term {
+        Term::Nothing => 0,
+        Term::Index(_, _) => INDEX_NODES,
+        Term::Interval(_, _, _) => INTERVAL_NODES,
     }
 }
 
-// The operation that comes after i others of its part, on what the last one made.
-fn operation(part: Part, i: usize, last: Operand) -> Operation {
-    match part {
-        Part::Index(turn, time, weight) => of_index(i, last, turn, time, weight),
-        Part::Interval(sum, seen, t, cells) => of_interval(i, last, sum, seen, t, cells),
+// The operation that comes after i others of its term, on what the last one made.
+fn operation(term: Term, i: usize, last: Operand) -> Operation {
+    match term {
+        Term::Nothing => model::add(last, last),
+        Term::Index(turn, time) => of_index(i, last, turn, time),
+        Term::Interval(sum, seen, weighed) => of_interval(i, last, sum, seen, weighed),
     }
 }
 
-// The square of how far the index time is off, by its weight.
-fn of_index(i: usize, last: Operand, turn: Operand, time: f64, weight: f64) -> Operation {
+// The square of how far the index time is off.
+fn of_index(i: usize, last: Operand, turn: Operand, time: f64) -> Operation {
     match i {
         0 => model::subtract(Operand::Number(time), turn),
-        1 => model::multiply(last, last),
-        _ => model::multiply(last, Operand::Number(weight)),
+        _ => model::multiply(last, last),
     }
 }
 
-// The square of how far the interval is off what is expected, up to the clip, and added to the sum.
+// The square of how far the interval is off, over its cells, up to the clip, and added to the sum. `track::is_off` asks
+// whether the same square is above the clip.
 fn of_interval(
     i: usize,
     last: Operand,
     sum: Operand,
     seen: Operand,
-    t: f64,
-    cells: f64,
+    weighed: Weighed,
 ) -> Operation {
     match i {
-        0 => model::multiply(seen, Operand::Number(cells)),
-        1 => model::subtract(Operand::Number(t), last),
+        0 => model::multiply(seen, Operand::Number(weighed.root)),
+        1 => model::subtract(Operand::Number(weighed.scaled), last),
         2 => model::multiply(last, last),
-        3 => model::min(last, Operand::Number(CLIP)),
+        3 => model::min(last, Operand::Number(weighed.clip)),
         _ => model::add(sum, last),
     }
 }
 
-// How many intervals are so far off, on such a drive, that they are clipped.
-pub(crate) fn count_clipped(ticks: &[u32], drive: Drive) -> u64 {
-    let seen = drive.cell * (1.0 / drive.speed);
-    let mut clipped = 0;
-    for i in 0..ticks.len() {
-        if is_clipped(ticks[i] as f64 / CELL, seen) {
-            clipped = std::num::wrapping_add_u64(clipped, 1);
+impl Index {
+    // It goes with the first part.
+    fn of_part(self, i: usize) -> Index {
+        if i == 0 {
+            return self;
+        }
+        Index::Nothing
+    }
+
+    fn term(self, turn: Operand) -> Term {
+        match self {
+            Index::Pulls(time) => Term::Index(turn, time as f64 / TURN),
+            Index::Nothing => Term::Nothing,
         }
     }
-    clipped
-}
-
-fn is_clipped(t: f64, seen: f64) -> bool {
-    let off = t - seen * nearest_cells(t, seen);
-    !(off * off <= CLIP)
-}
-
-// How many whole cells, 1 to 8, come nearest to t.
-fn nearest_cells(t: f64, seen: f64) -> f64 {
-    for cells in 1..MOST_CELLS {
-        if t < (cells as f64 + 0.5) * seen {
-            return cells as f64;
-        }
-    }
-    MOST_CELLS as f64
 }
 
 impl Turned {
-    // Before the first revolution, once the model is recorded.
+    // Before the first turn, once the model is recorded.
     pub(crate) fn none(model: Made) -> Turned {
         let tape = model.tape;
         Turned {
@@ -288,7 +313,7 @@ impl Turned {
         self
     }
 
-    // Goes on from the revolution's misfit.
+    // Goes on from the part's misfit.
     fn with(mut self, misfit: Made) -> Turned {
         let tape = misfit.tape;
         self.tape = tape;

@@ -1,0 +1,135 @@
+// Whether there is a result, and what the counts look like where there is none.
+use crate::fit::Step;
+use crate::fit::Steps;
+use crate::fit::least;
+use crate::flux::Ends;
+use crate::flux::Reading;
+ghost use Prim.Native.Nat.{_≤_, _<_};
+ghost use lib.ListN.{length};
+ghost use Rattle.imaging.specs.Flux.{Within};
+
+// The first of these that holds; fitted where no other does.
+pub enum Verdict {
+    Refused,
+    HighDensity,
+    Unknown,
+    Gcr,
+    Fm,
+    Off,
+    TurnOff,
+    Unsettled,
+    Fitted,
+}
+
+// How many cells an interval has at most.
+pub const CELLS: usize = 8;
+
+// At what was reached: how long a cell is read, how many intervals have 1 to 8 cells, how many are off, and the verdict.
+pub struct Judged {
+    pub verdict: Verdict,
+    pub seen: f64,
+    pub by_cells: [usize; CELLS],
+    pub off: usize,
+}
+
+// MFM has intervals of 2, 3 and 4 cells. What more than 1 in 64 intervals have is common; more than 1 in 8 off are too
+// many, in a file and in each turn.
+const COMMON: usize = 64;
+
+const MOST_OFF: usize = 8;
+
+// The gaps and marks of MFM have intervals of 3 cells: where fewer than 1 in 512 have, of so many that some should, and
+// intervals of 4 are common, it is FM.
+const RARE: usize = 512;
+
+const ENOUGH: usize = 4_096;
+
+pub(crate) fn judge(steps: Steps, reading: Reading, ends: &Ends, ticks: &[u32]) -> Judged
+    requires { ⌜ Within reading ⌝ }
+{
+    let last = steps.last;
+    let drive = last.drive;
+    let seen = drive.seen();
+    let read = least(reading.intervals, ticks.len());
+    let by_cells = count_by_cells(&ticks[..read], seen);
+    let off = track::count_off(&ticks[..read], seen);
+    let turn_off = is_a_turn_off(reading.revolutions, ends, ticks, seen);
+    Judged {
+        verdict: verdict(last, by_cells, read, off, turn_off),
+        seen,
+        by_cells,
+        off,
+    }
+}
+
+fn count_by_cells(ticks: &[u32], seen: f64) -> [usize; CELLS] {
+    let mut counts = [0usize; CELLS];
+    for i in 0..CELLS {
+        counts[i] = track::count_cells(ticks, seen, i + 1);
+    }
+    counts
+}
+
+fn is_a_turn_off(revolutions: usize, ends: &Ends, ticks: &[u32], seen: f64) -> bool
+    requires { ⌜ revolutions ≤ 64 ⌝ }
+{
+    for i in 0..revolutions {
+        let end = least(ends[i + 1], ticks.len());
+        let from = least(ends[i], end);
+        if track::count_off(&ticks[from..end], seen) > (end - from) / MOST_OFF {
+            return true;
+        }
+    }
+    false
+}
+
+fn verdict(
+    last: Step,
+    by_cells: [usize; CELLS],
+    intervals: usize,
+    off: usize,
+    turn_off: bool,
+) -> Verdict {
+    if last.refusal > 0 {
+        return Verdict::Refused;
+    }
+    if by_cells[0] > intervals / COMMON {
+        return one_cell(by_cells, intervals);
+    }
+    if longer_than_four(by_cells) > intervals / COMMON {
+        return Verdict::Gcr;
+    }
+    if is_fm(by_cells, intervals) {
+        return Verdict::Fm;
+    }
+    if off > intervals / MOST_OFF {
+        return Verdict::Off;
+    }
+    if turn_off {
+        return Verdict::TurnOff;
+    }
+    if !last.is_settled() {
+        return Verdict::Unsettled;
+    }
+    Verdict::Fitted
+}
+
+// A high density disk has cells of half the length: intervals of 1, 1 and a half and 2.
+fn one_cell(by_cells: [usize; CELLS], intervals: usize) -> Verdict {
+    let three_or_four = std::num::wrapping_add_usize(by_cells[2], by_cells[3]);
+    let more = std::num::wrapping_add_usize(three_or_four, longer_than_four(by_cells));
+    if more > intervals / COMMON {
+        return Verdict::Unknown;
+    }
+    Verdict::HighDensity
+}
+
+fn is_fm(by_cells: [usize; CELLS], intervals: usize) -> bool {
+    (by_cells[2] < intervals / RARE) & (by_cells[3] > intervals / COMMON) & (intervals >= ENOUGH)
+}
+
+pub(crate) fn longer_than_four(by_cells: [usize; CELLS]) -> usize {
+    let five_or_six = std::num::wrapping_add_usize(by_cells[4], by_cells[5]);
+    let seven_or_eight = std::num::wrapping_add_usize(by_cells[6], by_cells[7]);
+    std::num::wrapping_add_usize(five_or_six, seven_or_eight)
+}
