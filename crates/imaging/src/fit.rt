@@ -1,4 +1,5 @@
 // The fit: steps to the least misfit of all turns.
+use crate::flux;
 use crate::flux::Ends;
 use crate::flux::Reading;
 use crate::flux::Times;
@@ -179,7 +180,7 @@ fn take_step(
         child,
         partial,
         reading.intervals,
-        pull(reading, times, ticks, median, drive),
+        pull_at(reading, times, ticks, median, drive),
     )
 }
 
@@ -286,8 +287,6 @@ fn turn_all(
 {
     let mut turned = marked;
     for i in 0..revolutions {
-        let end = least(ends[i + 1], ticks.len());
-        let from = least(ends[i], end);
         turned = turn::turn(
             turned,
             value,
@@ -297,30 +296,24 @@ fn turn_all(
             child,
             partial,
             model,
-            index(times[i], median),
-            &ticks[from..end],
+            index_of(times[i], median),
+            flux::of_turn(i, ends, ticks),
         );
     }
     turned
 }
 
-pub(crate) fn least(a: usize, b: usize) -> usize
-    ensures { λ r. ⌜ (r ≤ a) × (r ≤ b) ⌝ }
-{
-    if a < b { a } else { b }
-}
-
-fn index(time: u32, median: u32) -> Index {
+fn index_of(time: u32, median: u32) -> Index {
     if track::is_apart(time, median) {
         return Index::Nothing;
     }
     Index::Pulls(time)
 }
 
-fn pull(reading: Reading, times: &Times, ticks: &[u32], median: u32, drive: Drive) -> Pull
+fn pull_at(reading: Reading, times: &Times, ticks: &[u32], median: u32, drive: Drive) -> Pull
     requires { ⌜ Within reading ⌝ }
 {
-    let read = least(reading.intervals, ticks.len());
+    let read = flux::least(reading.intervals, ticks.len());
     let cells = track::pulling_cells(&ticks[..read], drive.seen());
     let turns = pulling_turns(reading.revolutions, times, median);
     Pull {

@@ -1,6 +1,7 @@
 // The turns that a file holds, and whether they are in order. A reader hands them over one by one, an index time with
 // `begin_revolution` and then each interval with `add_interval`. The intervals of all turns go into one lent slice, one
 // after another, in ticks of 25 ns.
+ghost use Prim.Native.Nat.{_≤_};
 ghost use Rattle.imaging.specs.Flux.{Within};
 
 pub const MOST_REVOLUTIONS: usize = 64;
@@ -129,6 +130,21 @@ pub(crate) fn add_interval(
     after.latest = before.latest + 1;
     after.spent = before.spent + ticks_of_it as u64;
     after
+}
+
+// The intervals of turn i. That the ends lie in order within the ticks is asked again, in place of a proof.
+pub(crate) fn of_turn<'a, 'b>(i: usize, ends: &'b Ends, ticks: &'a [u32]) -> &'a [u32]
+    requires { ⌜ i ≤ 63 ⌝ }
+{
+    let end = least(ends[i + 1], ticks.len());
+    let from = least(ends[i], end);
+    &ticks[from..end]
+}
+
+pub(crate) fn least(a: usize, b: usize) -> usize
+    ensures { λ r. ⌜ (r ≤ a) × (r ≤ b) ⌝ }
+{
+    if a < b { a } else { b }
 }
 
 impl Reading {

@@ -129,10 +129,15 @@ fn fit_file(out: Out, name: &mut [u8], verbose: bool) -> Ended {
 // A name goes into one line, whatever it is made of.
 fn mask(name: &mut [u8]) {
     for i in 0..name.len() {
-        if (name[i] < b' ') | (name[i] == 127) {
-            name[i] = b'?';
-        }
+        name[i] = shown(name[i]);
     }
+}
+
+fn shown(byte: u8) -> u8 {
+    if (byte < b' ') | (byte == 127) {
+        return b'?';
+    }
+    byte
 }
 
 fn fit_turns(

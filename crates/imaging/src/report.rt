@@ -1,7 +1,7 @@
 // What is written of a file: a line with its verdict or its fault, and under it what the verdict rests on.
 use crate::fit::MOST_STEPS;
 use crate::fit::Steps;
-use crate::fit::least;
+use crate::flux;
 use crate::flux::Ends;
 use crate::flux::Fault;
 use crate::flux::LONGEST_TURN;
@@ -133,9 +133,8 @@ pub(crate) fn turns(
 {
     let mut told = out;
     for i in 0..revolutions {
-        let end = least(ends[i + 1], ticks.len());
-        let from = least(ends[i], end);
-        told = turn(told, i + 1, times[i], &ticks[from..end], seen, median);
+        let intervals = flux::of_turn(i, ends, ticks);
+        told = turn(told, i + 1, times[i], intervals, seen, median);
     }
     told
 }
@@ -163,9 +162,13 @@ fn whole(out: Out, time: u32, ticks: &[u32]) -> Out {
 fn time_of(ticks: &[u32]) -> u64 {
     let mut sum = 0;
     for i in 0..ticks.len() {
-        sum = std::num::wrapping_add_u64(sum, ticks[i] as u64);
+        sum = std::num::wrapping_add_u64(sum, wide(ticks[i]));
     }
     sum
+}
+
+fn wide(x: u32) -> u64 {
+    x as u64
 }
 
 fn apart(out: Out, time: u32, median: u32) -> Out {
@@ -192,7 +195,7 @@ fn shown(taken: usize, verbose: bool) -> usize
     ensures { λ r. ⌜ r ≤ 64 ⌝ }
 {
     if verbose {
-        return least(taken, MOST_STEPS);
+        return flux::least(taken, MOST_STEPS);
     }
     0
 }

@@ -59,7 +59,7 @@ pub(crate) fn turn(
     let parts = track::part_count(ticks.len());
     for passed in 0..parts {
         let left = parts - 1 - passed;
-        let part = track::part(ticks.len(), left);
+        let part = track::part_at(ticks.len(), left);
         let from = part.from;
         let end = part.end;
         turned = turn_part(

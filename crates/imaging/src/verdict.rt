@@ -1,7 +1,7 @@
 // Whether there is a result, and what the counts look like where there is none.
 use crate::fit::Step;
 use crate::fit::Steps;
-use crate::fit::least;
+use crate::flux;
 use crate::flux::Ends;
 use crate::flux::Reading;
 ghost use Prim.Native.Nat.{_≤_, _<_};
@@ -50,12 +50,13 @@ pub(crate) fn judge(steps: Steps, reading: Reading, ends: &Ends, ticks: &[u32]) 
     let last = steps.last;
     let drive = last.drive;
     let seen = drive.seen();
-    let read = least(reading.intervals, ticks.len());
+    let read = flux::least(reading.intervals, ticks.len());
     let by_cells = count_by_cells(&ticks[..read], seen);
     let off = track::count_off(&ticks[..read], seen);
     let turn_off = is_a_turn_off(reading.revolutions, ends, ticks, seen);
+    let verdict = decide(last, by_cells, read, off, turn_off);
     Judged {
-        verdict: verdict(last, by_cells, read, off, turn_off),
+        verdict,
         seen,
         by_cells,
         off,
@@ -74,16 +75,15 @@ fn is_a_turn_off(revolutions: usize, ends: &Ends, ticks: &[u32], seen: f64) -> b
     requires { ⌜ revolutions ≤ 64 ⌝ }
 {
     for i in 0..revolutions {
-        let end = least(ends[i + 1], ticks.len());
-        let from = least(ends[i], end);
-        if track::count_off(&ticks[from..end], seen) > (end - from) / MOST_OFF {
+        let intervals = flux::of_turn(i, ends, ticks);
+        if track::count_off(intervals, seen) > intervals.len() / MOST_OFF {
             return true;
         }
     }
     false
 }
 
-fn verdict(
+fn decide(
     last: Step,
     by_cells: [usize; CELLS],
     intervals: usize,

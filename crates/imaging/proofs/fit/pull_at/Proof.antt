@@ -1,0 +1,13 @@
+-- The part has as many intervals as were read.
+use mathlib.Core.Path.{sym}
+use lib.Seq.{length-take-le}
+use borrow.Author.Needs.{needs}
+use Rattle.imaging.proofs.fit.pull_at.Statement.{statement}
+use Rattle.imaging.proofs.fit.pull_at.Tie as tie
+
+pub pull-at-spec : {M : Type 1} → statement M
+pull-at-spec =
+    tie.close
+    (tie.spec
+    (λ c κs. search needs) (λ c. sym (length-take-le _ _ (search needs))) (λ c κs. search needs)
+    (λ c κs. search needs) (λ c κs. search needs) (λ c κs. search needs) (λ c κs. search needs) (λ c. search needs))

@@ -1,0 +1,14 @@
+-- The part has as many intervals as were read.
+use mathlib.Core.Path.{sym}
+use lib.Seq.{length-take-le}
+use borrow.Author.Needs.{needs}
+use Rattle.imaging.proofs.verdict.judge.Statement.{statement}
+use Rattle.imaging.proofs.verdict.judge.Tie as tie
+
+pub judge-spec : {M : Type 1} → statement M
+judge-spec =
+    tie.close
+    (tie.spec
+    (λ c κs. search needs) (λ c κs. search needs) (λ c. sym (length-take-le _ _ (search needs)))
+    (λ c κs. search needs) (λ c. sym (length-take-le _ _ (search needs))) (λ c κs. search needs)
+    (λ c κs. search needs) (λ c κs. search needs) (λ c. search needs))
