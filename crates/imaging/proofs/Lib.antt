@@ -1,3 +1,3 @@
-pub mod Parts
+pub mod Counted
 pub mod Text
 pub mod Proved

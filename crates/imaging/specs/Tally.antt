@@ -4,7 +4,7 @@ use mathlib.Core.Bool.{Bool, true, false}
 use Rattle.imaging.specs.declared.tally.Tally.{Tally}
 
 -- one file more, fitted or not
-abbrev pub tallied : Bool → Tally → Tally
+unfoldable pub tallied : Bool → Tally → Tally
 tallied true t = record { fitted = t .fitted + 1; not = t .not }
 tallied false t = record { fitted = t .fitted; not = t .not + 1 }
 

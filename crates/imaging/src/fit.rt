@@ -156,6 +156,8 @@ fn take_step(
 ) -> Step
     requires { ⌜ Within reading ⌝ }
 {
+    let drive = before.next;
+    let pull = pull_at(reading, times, ticks, median, drive);
     let gathered = gather(
         before,
         value,
@@ -170,7 +172,6 @@ fn take_step(
         ticks,
         median,
     );
-    let drive = before.next;
     finish(
         gathered,
         value,
@@ -180,7 +181,7 @@ fn take_step(
         child,
         partial,
         reading.intervals,
-        pull_at(reading, times, ticks, median, drive),
+        pull,
     )
 }
 

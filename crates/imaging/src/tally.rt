@@ -1,7 +1,7 @@
 // How many files were fitted and how many were not.
 use crate::out::Out;
 ghost use mathlib.Core.Path.{_≡_};
-ghost use Prim.Native.Nat.{_≤_, _<_, _^_, _+_};
+ghost use Prim.Native.Nat.{_<_, _+_, _^_};
 ghost use Rattle.imaging.specs.Tally.{tallied, files};
 
 pub struct Tally {
@@ -18,7 +18,7 @@ impl Tally {
 
     // One file more.
     pub(crate) fn with(self, fitted: bool) -> Tally
-        requires { ⌜ files self < 2 ^ 63 ⌝ }
+        requires { ⌜ files self + 1 < 2 ^ 64 ⌝ }
         ensures { λ r. ⌜ r ≡ tallied fitted self ⌝ }
     {
         if fitted {

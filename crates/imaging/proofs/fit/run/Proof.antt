@@ -1,7 +1,9 @@
--- `run` is safe and ends: the steps are counted, and no lent array changes its length.
+-- `run` is safe and ends: the steps are counted, and no lent array changes its length. What is known of the count lies
+-- too far back for `search`: the record after the step leads there.
 use mathlib.Core.Path.{_≡_}
 use Prim.Native.Nat.{_≤_, _-_}
 use lib.ListN.{length}
+use native.Mathlib.Omega.{arith}
 use borrow.Author.Needs.{needs}
 use Rattle.imaging.proofs.fit.run.Statement.{statement}
 use Rattle.imaging.proofs.fit.run.Tie as tie
@@ -26,7 +28,9 @@ run-spec =
     Inv-loop
     μ-loop
     (λ c κs. search needs) (λ c. search needs) (λ c κs. search needs) (λ c κs. search needs) (λ c κs. search needs)
+    (λ c. omega (arith, c .before .before .before .before .before .before .before .before .before .before .before .before .before))
+    (λ c. omega (arith, c .before .before .before .before .before .before .before .before .before .before .before .before .before))
+    (λ c. omega (arith, c .before .before .before .before .before .before .before .before .before .before .before .before .before))
     (λ c. search needs) (λ c. search needs) (λ c. search needs) (λ c. search needs) (λ c. search needs)
     (λ c. search needs) (λ c. search needs) (λ c. search needs) (λ c. search needs) (λ c. search needs)
-    (λ c. search needs) (λ c. search needs) (λ c. search needs) (λ c. search needs) (λ c. search needs)
-    (λ c. search needs) (λ c. search needs))
+    (λ c. search needs) (λ c. search needs) (λ c. search needs) (λ c. search needs))

@@ -2,7 +2,7 @@
 use mathlib.Core.Path.{_≡_}
 use Prim.Native.Nat.{_≤_, _<_, _-_, _*_, _^_}
 use lib.ListN.{length}
-use Rattle.imaging.proofs.Parts.{bounds}
+use Rattle.track.proofs.Covered.{within-of}
 use borrow.Author.Needs.{needs}
 use Rattle.imaging.proofs.turn.turn.Statement.{statement}
 use Rattle.imaging.proofs.turn.turn.Tie as tie
@@ -29,10 +29,10 @@ turn-spec =
     μ-loop
     (λ c κs. search needs) (λ c. search needs) (λ c. search needs) (λ c. search needs) (λ c κs. search needs)
     (λ c κs. search needs)
-    (λ c. let b = bounds _ _ (c .before .before .before .before .before .before .before .part-at .ensures) in search needs)
-    (λ c. let b = bounds _ _ (c .before .before .before .before .before .before .before .part-at .ensures) in search needs)
-    (λ c. let b = bounds _ _ (c .before .before .before .before .before .before .before .part-at .ensures) in search needs)
-    (λ c. let b = bounds _ _ (c .before .before .before .before .before .before .before .part-at .ensures) in search needs)
+    (λ c. let b = within-of _ _ (c .before .before .before .before .before .before .before .part-at .ensures) in search needs)
+    (λ c. let b = within-of _ _ (c .before .before .before .before .before .before .before .part-at .ensures) in search needs)
+    (λ c. let b = within-of _ _ (c .before .before .before .before .before .before .before .part-at .ensures) in search needs)
+    (λ c. let b = within-of _ _ (c .before .before .before .before .before .before .before .part-at .ensures) in search needs)
     (λ c κs. search needs) (λ c. search needs) (λ c. search needs) (λ c. search needs) (λ c. search needs)
     (λ c. search needs) (λ c. search needs) (λ c. search needs) (λ c. search needs) (λ c. search needs)
     (λ c. search needs))
