@@ -16,7 +16,6 @@ use flux::Reading;
 use flux::Times;
 use out::Out;
 use tally::Tally;
-use verdict::Verdict;
 ghost use mathlib.Core.Path.{_≡_};
 ghost use Prim.Native.Nat.{_+_, _-_, _<_, _≤_, _^_};
 ghost use Rattle.imaging.specs.Flux.{Within};
@@ -155,14 +154,15 @@ fn fit_turns(
     let median = median(times, revolutions);
     let steps = fit::fit(reading, times, ends, ticks, median);
     let judged = verdict::judge(steps, reading, ends, ticks);
-    let verdict = judged.verdict;
+    let last = steps.last;
+    let reached = last.drive;
     let by_cells = judged.by_cells;
-    let told = report::verdict(out, name, judged, steps, reading.intervals);
+    let told = report::verdict(out, name, judged, reached, reading.intervals);
     let told = report::by_cells(told, by_cells);
     let told = report::turns(told, revolutions, times, ends, ticks, judged.seen, median);
     Ended {
         out: report::steps(told, steps, verbose),
-        fitted: is_fitted(verdict),
+        fitted: judged.is_fitted(),
     }
 }
 
@@ -171,18 +171,4 @@ fn median(times: &[u32], revolutions: usize) -> u32 {
         return 0;
     }
     track::median(&times[..revolutions])
-}
-
-fn is_fitted(verdict: Verdict) -> bool {
-    match verdict {
-        Verdict::Refused => false,
-        Verdict::HighDensity => false,
-        Verdict::Unknown => false,
-        Verdict::Gcr => false,
-        Verdict::Fm => false,
-        Verdict::Off => false,
-        Verdict::TurnOff => false,
-        Verdict::Unsettled => false,
-        Verdict::Fitted => true,
-    }
 }

@@ -19,7 +19,6 @@ use crate::turn::TURN;
 use crate::verdict::CELLS;
 use crate::verdict::Judged;
 use crate::verdict::Verdict;
-use crate::verdict::longer_than_four;
 ghost use Prim.Native.Nat.{_≤_};
 ghost use lib.ListN.{length};
 ghost use Rattle.imaging.specs.Flux.{Within};
@@ -35,61 +34,13 @@ pub(crate) fn no_name(out: Out, argument: usize) -> Out {
         .text(b": not the name of a file\n")
 }
 
-pub(crate) fn verdict(out: Out, name: &[u8], judged: Judged, steps: Steps, all: usize) -> Out {
+pub(crate) fn verdict(out: Out, name: &[u8], judged: Judged, drive: Drive, all: usize) -> Out {
     let named = out.text(name).text(b": ");
-    let by_cells = judged.by_cells;
-    let last = steps.last;
-    let drive = last.drive;
+    if judged.is_fitted() {
+        return fitted(named, drive, judged.off, all).text(b"\n");
+    }
     let verdict = judged.verdict;
-    let told = match verdict {
-        Verdict::Refused => named.text(b"refusal ").number(last.refusal as usize),
-        Verdict::HighDensity => {
-            not_fitted(
-                named,
-                by_cells[0],
-                all,
-                b"have one cell, as of a high density disk",
-            )
-        }
-        Verdict::Unknown => {
-            not_fitted(
-                named,
-                by_cells[0],
-                all,
-                b"have one cell, and others more than two: no MFM",
-            )
-        }
-        Verdict::Gcr => {
-            not_fitted(
-                named,
-                longer_than_four(by_cells),
-                all,
-                b"have more than four cells, as in GCR",
-            )
-        }
-        Verdict::Fm => not_fitted(named, by_cells[2], all, b"have three cells, as in FM"),
-        Verdict::Off => not_fitted(
-            named,
-            judged.off,
-            all,
-            b"are more than a quarter of a cell off",
-        ),
-        Verdict::TurnOff => named.text(
-            b"not fitted: of a turn more than an eighth of the intervals are off",
-        ),
-        Verdict::Unsettled => named.text(b"not fitted: the steps do not settle"),
-        Verdict::Fitted => fitted(named, drive, judged.off, all),
-    };
-    told.text(b"\n")
-}
-
-fn not_fitted(out: Out, some: usize, all: usize, why: &[u8]) -> Out {
-    out.text(b"not fitted: ")
-        .number(some)
-        .text(b" of ")
-        .counted(all, b"interval")
-        .text(b" ")
-        .text(why)
+    why_not(named.text(b"not fitted: "), verdict, all).text(b"\n")
 }
 
 fn fitted(out: Out, drive: Drive, off: usize, all: usize) -> Out {
@@ -97,18 +48,37 @@ fn fitted(out: Out, drive: Drive, off: usize, all: usize) -> Out {
     intervals_off(named.text(b"; "), off, all)
 }
 
-fn intervals_off(out: Out, off: usize, all: usize) -> Out {
-    out.number(off)
-        .text(b" of ")
-        .counted(all, b"interval")
-        .text(b" off")
-}
-
 fn settings(out: Out, drive: Drive) -> Out {
     out.decimal(drive.speed * RPM, THREE)
         .text(b" rpm, cell ")
         .decimal(drive.cell * NANOSECONDS, THREE)
         .text(b" ns")
+}
+
+fn intervals_off(out: Out, off: usize, all: usize) -> Out {
+    some_of(out, off, all).text(b" off")
+}
+
+fn some_of(out: Out, some: usize, all: usize) -> Out {
+    out.number(some).text(b" of ").counted(all, b"interval")
+}
+
+fn why_not(out: Out, verdict: Verdict, all: usize) -> Out {
+    match verdict {
+        Verdict::Refused(n) => out.text(b"refusal ").number(n),
+        Verdict::HighDensity(n) => {
+            some_of(out, n, all).text(b" have one cell, as of a high density disk")
+        }
+        Verdict::Unknown(n) => {
+            some_of(out, n, all).text(b" have one cell, and others more than two: not MFM")
+        }
+        Verdict::Gcr(n) => some_of(out, n, all).text(b" have more than four cells, as in GCR"),
+        Verdict::Fm(n) => some_of(out, n, all).text(b" have three cells, as in FM"),
+        Verdict::Off(n) => some_of(out, n, all).text(b" are more than a quarter of a cell off"),
+        Verdict::TurnOff(i) => out.text(b"more than an eighth is off in turn ").number(i),
+        Verdict::Unsettled => out.text(b"the steps do not settle"),
+        Verdict::Fitted => out,
+    }
 }
 
 pub(crate) fn by_cells(out: Out, counts: [usize; CELLS]) -> Out {
@@ -213,52 +183,49 @@ fn step(out: Out, number: usize, misfit: f64, drive: Drive, edges: u64) -> Out {
 }
 
 pub(crate) fn fault(out: Out, name: &[u8], reading: Reading) -> Out {
-    let named = out.text(name).text(b": ");
     let fault = reading.fault;
-    let line = reading.fault_line;
-    let told = match fault {
-        Fault::Missing => named.text(b"no such file"),
-        Fault::Denied => named.text(b"may not be read"),
-        Fault::Folder => named.text(b"a folder"),
-        Fault::Unreadable => named.text(b"cannot be read"),
-        Fault::Scp => named.text(b"not text: an SCP dump"),
-        Fault::Kryoflux => named.text(b"not text: a KryoFlux stream"),
-        Fault::Hfe => named.text(b"not text: an HFE image"),
-        Fault::Ipf => named.text(b"not text: an IPF image"),
-        Fault::Applesauce => named.text(b"not text: an Applesauce image"),
-        Fault::FluxEngine => named.text(b"not text: a FluxEngine capture"),
-        Fault::NotText => named.text(b"not text: a byte that no text has"),
-        Fault::Empty => named.text(b"the file is empty"),
-        Fault::EmptyLine => at(named, line, b"an empty line"),
-        Fault::CarriageReturn => at(
-            named,
-            line,
-            b"a carriage return: save with line feeds alone",
-        ),
-        Fault::Space => at(named, line, b"a space where none belongs"),
+    fault_words(out.text(name).text(b": "), fault, reading.fault_line).text(b"\n")
+}
+
+fn fault_words(out: Out, fault: Fault, line: usize) -> Out {
+    match fault {
+        Fault::Missing => out.text(b"no such file"),
+        Fault::Denied => out.text(b"may not be read"),
+        Fault::Folder => out.text(b"a folder"),
+        Fault::Unreadable => out.text(b"cannot be read"),
+        Fault::Scp => out.text(b"not text: an SCP dump"),
+        Fault::Kryoflux => out.text(b"not text: a KryoFlux stream"),
+        Fault::Hfe => out.text(b"not text: an HFE image"),
+        Fault::Ipf => out.text(b"not text: an IPF image"),
+        Fault::Applesauce => out.text(b"not text: an Applesauce image"),
+        Fault::FluxEngine => out.text(b"not text: a FluxEngine capture"),
+        Fault::NotText => out.text(b"not text: a byte that no text has"),
+        Fault::Empty => out.text(b"the file is empty"),
+        Fault::EmptyLine => at(out, line, b"an empty line"),
+        Fault::CarriageReturn => at(out, line, b"a carriage return: save with line feeds alone"),
+        Fault::Space => at(out, line, b"a space where none belongs"),
         Fault::NoNumber => at(
-            named,
+            out,
             line,
             b"neither a whole number of ticks, 1 to 99999999, nor 'revolution N'",
         ),
-        Fault::Early => at(named, line, b"an interval before the first 'revolution N'"),
-        Fault::NoInterval => at(named, line, b"a revolution with no interval"),
-        Fault::WrongSpeed => wrong_speed(named, line),
+        Fault::Early => at(out, line, b"an interval before the first 'revolution N'"),
+        Fault::NoInterval => at(out, line, b"a revolution with no interval"),
+        Fault::WrongSpeed => wrong_speed(out, line),
         Fault::PastIndex => at(
-            named,
+            out,
             line,
             b"an interval that begins after the next index pulse",
         ),
         Fault::LongRevolution => limit(
-            named,
+            out,
             line,
             MOST_IN_REVOLUTION,
             b" intervals in a revolution",
         ),
-        Fault::LongFile => limit(named, line, MOST_INTERVALS, b" intervals in a file"),
-        Fault::ManyRevolutions => limit(named, line, MOST_REVOLUTIONS, b" revolutions in a file"),
-    };
-    told.text(b"\n")
+        Fault::LongFile => limit(out, line, MOST_INTERVALS, b" intervals in a file"),
+        Fault::ManyRevolutions => limit(out, line, MOST_REVOLUTIONS, b" revolutions in a file"),
+    }
 }
 
 fn at(out: Out, line: usize, why: &[u8]) -> Out {

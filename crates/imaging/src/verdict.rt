@@ -8,15 +8,16 @@ ghost use Prim.Native.Nat.{_≤_, _<_};
 ghost use lib.ListN.{length};
 ghost use Rattle.imaging.specs.Flux.{Within};
 
-// The first of these that holds; fitted where no other does.
+// The first of these that holds, with the number that it rests on: document 01's refusal, how many intervals, or which
+// turn. Fitted where no other holds.
 pub enum Verdict {
-    Refused,
-    HighDensity,
-    Unknown,
-    Gcr,
-    Fm,
-    Off,
-    TurnOff,
+    Refused(usize),
+    HighDensity(usize),
+    Unknown(usize),
+    Gcr(usize),
+    Fm(usize),
+    Off(usize),
+    TurnOff(usize),
     Unsettled,
     Fitted,
 }
@@ -53,7 +54,7 @@ pub(crate) fn judge(steps: Steps, reading: Reading, ends: &Ends, ticks: &[u32]) 
     let read = flux::least(reading.intervals, ticks.len());
     let by_cells = count_by_cells(&ticks[..read], seen);
     let off = track::count_off(&ticks[..read], seen);
-    let turn_off = is_a_turn_off(reading.revolutions, ends, ticks, seen);
+    let turn_off = first_turn_off(reading.revolutions, ends, ticks, seen);
     let verdict = decide(last, by_cells, read, off, turn_off);
     Judged {
         verdict,
@@ -71,16 +72,17 @@ fn count_by_cells(ticks: &[u32], seen: f64) -> [usize; CELLS] {
     counts
 }
 
-fn is_a_turn_off(revolutions: usize, ends: &Ends, ticks: &[u32], seen: f64) -> bool
+// The number of the first turn of which too many intervals are off, or 0 where there is none.
+fn first_turn_off(revolutions: usize, ends: &Ends, ticks: &[u32], seen: f64) -> usize
     requires { ⌜ revolutions ≤ 64 ⌝ }
 {
     for i in 0..revolutions {
         let intervals = flux::of_turn(i, ends, ticks);
         if track::count_off(intervals, seen) > intervals.len() / MOST_OFF {
-            return true;
+            return i + 1;
         }
     }
-    false
+    0
 }
 
 fn decide(
@@ -88,25 +90,25 @@ fn decide(
     by_cells: [usize; CELLS],
     intervals: usize,
     off: usize,
-    turn_off: bool,
+    turn_off: usize,
 ) -> Verdict {
     if last.refusal > 0 {
-        return Verdict::Refused;
+        return Verdict::Refused(last.refusal as usize);
     }
     if by_cells[0] > intervals / COMMON {
         return one_cell(by_cells, intervals);
     }
     if longer_than_four(by_cells) > intervals / COMMON {
-        return Verdict::Gcr;
+        return Verdict::Gcr(longer_than_four(by_cells));
     }
     if is_fm(by_cells, intervals) {
-        return Verdict::Fm;
+        return Verdict::Fm(by_cells[2]);
     }
     if off > intervals / MOST_OFF {
-        return Verdict::Off;
+        return Verdict::Off(off);
     }
-    if turn_off {
-        return Verdict::TurnOff;
+    if turn_off > 0 {
+        return Verdict::TurnOff(turn_off);
     }
     if !last.is_settled() {
         return Verdict::Unsettled;
@@ -119,17 +121,27 @@ fn one_cell(by_cells: [usize; CELLS], intervals: usize) -> Verdict {
     let three_or_four = std::num::wrapping_add_usize(by_cells[2], by_cells[3]);
     let more = std::num::wrapping_add_usize(three_or_four, longer_than_four(by_cells));
     if more > intervals / COMMON {
-        return Verdict::Unknown;
+        return Verdict::Unknown(by_cells[0]);
     }
-    Verdict::HighDensity
+    Verdict::HighDensity(by_cells[0])
 }
 
 fn is_fm(by_cells: [usize; CELLS], intervals: usize) -> bool {
     (by_cells[2] < intervals / RARE) & (by_cells[3] > intervals / COMMON) & (intervals >= ENOUGH)
 }
 
-pub(crate) fn longer_than_four(by_cells: [usize; CELLS]) -> usize {
+fn longer_than_four(by_cells: [usize; CELLS]) -> usize {
     let five_or_six = std::num::wrapping_add_usize(by_cells[4], by_cells[5]);
     let seven_or_eight = std::num::wrapping_add_usize(by_cells[6], by_cells[7]);
     std::num::wrapping_add_usize(five_or_six, seven_or_eight)
+}
+
+impl Judged {
+    pub(crate) fn is_fitted(self) -> bool {
+        let verdict = self.verdict;
+        if let Verdict::Fitted = verdict {
+            return true;
+        }
+        false
+    }
 }
