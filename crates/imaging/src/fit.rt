@@ -28,6 +28,12 @@ const SLOTS: usize = MOST_EDGES * NODES;
 
 pub const MOST_STEPS: usize = 64;
 
+// After so many steps a track of which too many intervals are off is given up: noise can creep on for hundreds.
+const PATIENCE: usize = 12;
+
+// Of a file or a turn, at most one interval in so many may be off.
+const MOST_OFF: usize = 8;
+
 // A move of either parameter that is less than this no longer shows in what is written.
 const SETTLED: f64 = 1.0 / 268_435_456.0;
 
@@ -114,7 +120,7 @@ fn run(
     let mut steps = Steps::none(median);
     for i in 0..MOST_STEPS {
         let before = steps.last;
-        if before.is_over() {
+        if before.is_over() | is_given_up(i, before, reading, ticks) {
             break;
         }
         let step = take_step(
@@ -134,6 +140,18 @@ fn run(
         steps = steps.with(i, step);
     }
     steps
+}
+
+fn is_given_up(taken: usize, last: Step, reading: Reading, ticks: &[u32]) -> bool {
+    if taken < PATIENCE {
+        return false;
+    }
+    let drive = last.drive;
+    are_too_many_off(flux::of_all(reading, ticks), drive.seen())
+}
+
+pub(crate) fn are_too_many_off(ticks: &[u32], seen: f64) -> bool {
+    track::count_off(ticks, seen) > ticks.len() / MOST_OFF
 }
 
 // A step makes the calls of document 01's demand 3, in its order: start, the model, mark, clear; for each part of each
@@ -314,8 +332,7 @@ fn index_of(time: u32, median: u32) -> Index {
 fn pull_at(reading: Reading, times: &Times, ticks: &[u32], median: u32, drive: Drive) -> Pull
     requires { ⌜ Within reading ⌝ }
 {
-    let read = flux::least(reading.intervals, ticks.len());
-    let cells = track::pulling_cells(&ticks[..read], drive.seen());
+    let cells = track::pulling_cells(flux::of_all(reading, ticks), drive.seen());
     let turns = pulling_turns(reading.revolutions, times, median);
     Pull {
         turns: std::num::nearest_u64_to_f64(turns),

@@ -141,6 +141,12 @@ pub(crate) fn of_turn<'a, 'b>(i: usize, ends: &'b Ends, ticks: &'a [u32]) -> &'a
     &ticks[from..end]
 }
 
+// The intervals of all turns.
+pub(crate) fn of_all<'a>(reading: Reading, ticks: &'a [u32]) -> &'a [u32] {
+    let read = least(reading.intervals, ticks.len());
+    &ticks[..read]
+}
+
 pub(crate) fn least(a: usize, b: usize) -> usize
     ensures { λ r. ⌜ (r ≤ a) × (r ≤ b) ⌝ }
 {

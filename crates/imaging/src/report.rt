@@ -70,12 +70,18 @@ fn why_not(out: Out, verdict: Verdict, all: usize) -> Out {
             some_of(out, n, all).text(b" have one cell, as of a high density disk")
         }
         Verdict::Unknown(n) => {
-            some_of(out, n, all).text(b" have one cell, and others more than two: not MFM")
+            some_of(out, n, all).text(b" have one cell, which MFM does not have")
         }
         Verdict::Gcr(n) => some_of(out, n, all).text(b" have more than four cells, as in GCR"),
-        Verdict::Fm(n) => some_of(out, n, all).text(b" have three cells, as in FM"),
+        Verdict::Fm(n) => {
+            some_of(out.text(b"only "), n, all).text(b" have three cells: FM, or no data")
+        }
         Verdict::Off(n) => some_of(out, n, all).text(b" are more than a quarter of a cell off"),
-        Verdict::TurnOff(i) => out.text(b"more than an eighth is off in turn ").number(i),
+        Verdict::TurnOff(i) => {
+            out.text(b"of turn ")
+                .number(i)
+                .text(b" more than an eighth of the intervals are off")
+        }
         Verdict::Unsettled => out.text(b"the steps do not settle"),
         Verdict::Fitted => out,
     }

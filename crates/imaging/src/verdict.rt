@@ -1,4 +1,5 @@
 // Whether there is a result, and what the counts look like where there is none.
+use crate::fit;
 use crate::fit::Step;
 use crate::fit::Steps;
 use crate::flux;
@@ -33,14 +34,11 @@ pub struct Judged {
     pub off: usize,
 }
 
-// MFM has intervals of 2, 3 and 4 cells. What more than 1 in 64 intervals have is common; more than 1 in 8 off are too
-// many, in a file and in each turn.
+// MFM has intervals of 2, 3 and 4 cells. What more than 1 in 64 intervals have is common.
 const COMMON: usize = 64;
 
-const MOST_OFF: usize = 8;
-
-// The gaps and marks of MFM have intervals of 3 cells: where fewer than 1 in 512 have, of so many that some should, and
-// intervals of 4 are common, it is FM.
+// The gaps and marks of any track of MFM have intervals of 3 cells, and FM has none. Fewer than 1 in 512 are none, of so
+// many intervals that there should be some.
 const RARE: usize = 512;
 
 const ENOUGH: usize = 4_096;
@@ -51,11 +49,12 @@ pub(crate) fn judge(steps: Steps, reading: Reading, ends: &Ends, ticks: &[u32]) 
     let last = steps.last;
     let drive = last.drive;
     let seen = drive.seen();
-    let read = flux::least(reading.intervals, ticks.len());
-    let by_cells = count_by_cells(&ticks[..read], seen);
-    let off = track::count_off(&ticks[..read], seen);
+    let all = flux::of_all(reading, ticks);
+    let by_cells = count_by_cells(all, seen);
+    let off = track::count_off(all, seen);
     let turn_off = first_turn_off(reading.revolutions, ends, ticks, seen);
-    let verdict = decide(last, by_cells, read, off, turn_off);
+    let too_many = fit::are_too_many_off(all, seen);
+    let verdict = decide(last, by_cells, all.len(), off, too_many, turn_off);
     Judged {
         verdict,
         seen,
@@ -78,7 +77,7 @@ fn first_turn_off(revolutions: usize, ends: &Ends, ticks: &[u32], seen: f64) -> 
 {
     for i in 0..revolutions {
         let intervals = flux::of_turn(i, ends, ticks);
-        if track::count_off(intervals, seen) > intervals.len() / MOST_OFF {
+        if fit::are_too_many_off(intervals, seen) {
             return i + 1;
         }
     }
@@ -90,6 +89,7 @@ fn decide(
     by_cells: [usize; CELLS],
     intervals: usize,
     off: usize,
+    too_many: bool,
     turn_off: usize,
 ) -> Verdict {
     if last.refusal > 0 {
@@ -104,7 +104,7 @@ fn decide(
     if is_fm(by_cells, intervals) {
         return Verdict::Fm(by_cells[2]);
     }
-    if off > intervals / MOST_OFF {
+    if too_many {
         return Verdict::Off(off);
     }
     if turn_off > 0 {
@@ -127,7 +127,7 @@ fn one_cell(by_cells: [usize; CELLS], intervals: usize) -> Verdict {
 }
 
 fn is_fm(by_cells: [usize; CELLS], intervals: usize) -> bool {
-    (by_cells[2] < intervals / RARE) & (by_cells[3] > intervals / COMMON) & (intervals >= ENOUGH)
+    (by_cells[2] < intervals / RARE) & (intervals >= ENOUGH)
 }
 
 fn longer_than_four(by_cells: [usize; CELLS]) -> usize {

@@ -28,6 +28,7 @@ run-spec =
     Inv-loop
     μ-loop
     (λ c κs. search needs) (λ c. search needs) (λ c κs. search needs) (λ c κs. search needs) (λ c κs. search needs)
+    (λ c κs. omega (arith, c .before .before .before .before .before .before .before .before .before .before .before .before))
     (λ c. omega (arith, c .before .before .before .before .before .before .before .before .before .before .before .before .before))
     (λ c. omega (arith, c .before .before .before .before .before .before .before .before .before .before .before .before .before))
     (λ c. omega (arith, c .before .before .before .before .before .before .before .before .before .before .before .before .before))
