@@ -70,7 +70,7 @@ fn why_not(out: Out, verdict: Verdict, all: usize) -> Out {
             some_of(out, n, all).text(b" have one cell, as of a high density disk")
         }
         Verdict::Unknown(n) => {
-            some_of(out, n, all).text(b" have one cell, which MFM does not have")
+            some_of(out, n, all).text(b" have one cell, beside longer ones: GCR, or noise")
         }
         Verdict::Gcr(n) => some_of(out, n, all).text(b" have more than four cells, as in GCR"),
         Verdict::Fm(n) => {
