@@ -58,15 +58,17 @@ pub struct Steps {
     pub edges: [u64; MOST_STEPS],
 }
 
-// How much pulls: turns whose index time does, and the cells of the intervals that do.
-struct Pull {
+// Where a step is taken, of how many intervals, and how much pulls there: turns whose index time does, and the cells of
+// the intervals that do.
+struct Place {
+    drive: Drive,
+    intervals: f64,
     turns: f64,
     cells: f64,
 }
 
-// Where a step is taken, its model, and what its turns came to.
+// The model of a step, and what its turns came to so far.
 struct Gathered {
-    drive: Drive,
     model: Model,
     turned: Turned,
 }
@@ -175,43 +177,36 @@ fn take_step(
     requires { ⌜ Within reading ⌝ }
 {
     let drive = before.next;
-    let pull = pull_at(reading, times, ticks, median, drive);
-    let gathered = gather(
-        before,
+    let place = place_at(drive, reading, times, ticks, median);
+    let tape = before.tape;
+    let summed = gather(
+        tape,
         value,
         adjoint,
         serial,
         count,
         child,
         partial,
+        drive,
         reading.revolutions,
         times,
         ends,
         ticks,
         median,
     );
-    finish(
-        gathered,
-        value,
-        adjoint,
-        serial,
-        count,
-        child,
-        partial,
-        reading.intervals,
-        pull,
-    )
+    finish(summed, value, adjoint, serial, count, child, partial, place)
 }
 
 // Everything up to the last pass.
 fn gather(
-    before: Step,
+    tape: Tape,
     value: &mut [f64],
     adjoint: &mut [f64],
     serial: &mut [u64],
     count: &mut [u8],
     child: &mut [u16],
     partial: &mut [f64],
+    drive: Drive,
     revolutions: usize,
     times: &Times,
     ends: &Ends,
@@ -220,9 +215,9 @@ fn gather(
 ) -> Gathered
     requires { ⌜ revolutions ≤ 64 ⌝ }
 {
-    let mut gathered = begin(before, value, adjoint, serial, count, child, partial);
-    let marked = gathered.turned;
-    let model = gathered.model;
+    let begun = begin(tape, value, adjoint, serial, count, child, partial, drive);
+    let model = begun.model;
+    let marked = begun.turned;
     let turned = turn_all(
         marked,
         value,
@@ -238,30 +233,24 @@ fn gather(
         ticks,
         median,
     );
-    gathered.turned = turned;
-    gathered
+    Gathered { model, turned }
 }
 
 // The model, the mark behind it, and its adjoints cleared.
 fn begin(
-    before: Step,
+    tape: Tape,
     value: &mut [f64],
     adjoint: &mut [f64],
     serial: &mut [u64],
     count: &mut [u8],
     child: &mut [u16],
     partial: &mut [f64],
+    drive: Drive,
 ) -> Gathered {
-    let tape = before.tape;
-    let drive = before.next;
     let start = Made::started(tape);
     let model = model::record_model(start, value, adjoint, serial, count, child, partial, drive);
     let turned = mark(model, value, adjoint, serial, count, child, partial);
-    Gathered {
-        drive,
-        model,
-        turned,
-    }
+    Gathered { model, turned }
 }
 
 fn mark(
@@ -329,12 +318,14 @@ fn index_of(time: u32, median: u32) -> Index {
     Index::Pulls(time)
 }
 
-fn pull_at(reading: Reading, times: &Times, ticks: &[u32], median: u32, drive: Drive) -> Pull
+fn place_at(drive: Drive, reading: Reading, times: &Times, ticks: &[u32], median: u32) -> Place
     requires { ⌜ Within reading ⌝ }
 {
     let cells = track::pulling_cells(flux::of_all(reading, ticks), drive.seen());
     let turns = pulling_turns(reading.revolutions, times, median);
-    Pull {
+    Place {
+        drive,
+        intervals: std::num::nearest_u64_to_f64(reading.intervals as u64),
         turns: std::num::nearest_u64_to_f64(turns),
         cells: std::num::nearest_u64_to_f64(cells as u64),
     }
@@ -352,7 +343,7 @@ fn pulling_turns(revolutions: usize, times: &Times, median: u32) -> u64
     turns
 }
 
-// The last pass, and the step that the slope leads to which it leaves at the parameters.
+// The last pass, unless something was refused before, and the step that it leads to.
 fn finish(
     gathered: Gathered,
     value: &mut [f64],
@@ -361,27 +352,13 @@ fn finish(
     count: &mut [u8],
     child: &mut [u16],
     partial: &mut [f64],
-    intervals: usize,
-    pull: Pull,
+    place: Place,
 ) -> Step {
-    let before = gathered.turned;
-    let tape = before.tape;
-    if before.refusal > 0 {
-        return Step::refused(before.refusal);
-    }
-    let turned = before.passed(dual::passes::propagate_mark_to_start(
-        tape,
-        value,
-        adjoint,
-        serial,
-        count,
-        child,
-        partial,
-    ));
     let model = gathered.model;
-    let drive = gathered.drive;
-    step_down(
-        turned,
+    let turned = gathered.turned;
+    let passed = pass_model(turned, value, adjoint, serial, count, child, partial);
+    step_from(
+        passed,
         value,
         adjoint,
         serial,
@@ -389,13 +366,36 @@ fn finish(
         child,
         partial,
         model,
-        drive,
-        intervals,
-        pull,
+        place,
     )
 }
 
-fn step_down(
+fn pass_model(
+    before: Turned,
+    value: &mut [f64],
+    adjoint: &mut [f64],
+    serial: &mut [u64],
+    count: &mut [u8],
+    child: &mut [u16],
+    partial: &mut [f64],
+) -> Turned {
+    if before.refusal > 0 {
+        return before;
+    }
+    let tape = before.tape;
+    before.passed(dual::passes::propagate_mark_to_start(
+        tape,
+        value,
+        adjoint,
+        serial,
+        count,
+        child,
+        partial,
+    ))
+}
+
+// By the slope that the passes left at the parameters.
+fn step_from(
     turned: Turned,
     value: &[f64],
     adjoint: &[f64],
@@ -404,9 +404,7 @@ fn step_down(
     child: &[u16],
     partial: &[f64],
     model: Model,
-    drive: Drive,
-    intervals: usize,
-    pull: Pull,
+    place: Place,
 ) -> Step {
     let tape = turned.tape;
     let speed = model.speed;
@@ -422,14 +420,7 @@ fn step_down(
         speed,
     );
     let by_cell = dual::reading::adjoint(tape, value, adjoint, serial, count, child, partial, cell);
-    Step::taken(
-        turned,
-        intervals,
-        drive,
-        slope_of(by_speed),
-        slope_of(by_cell),
-        pull,
-    )
+    Step::taken(turned, place, slope_of(by_speed), slope_of(by_cell))
 }
 
 fn slope_of(read: Read) -> Slope {
@@ -508,34 +499,17 @@ impl Step {
         self.is_settled() | (self.refusal > 0)
     }
 
-    fn taken(
-        turned: Turned,
-        intervals: usize,
-        drive: Drive,
-        by_speed: Slope,
-        by_cell: Slope,
-        pull: Pull,
-    ) -> Step {
+    fn taken(turned: Turned, place: Place, by_speed: Slope, by_cell: Slope) -> Step {
         let tape = turned.tape;
-        let next = drive.moved(by_speed.x, by_cell.x, pull);
+        let drive = place.drive;
         Step {
             tape,
             drive,
-            misfit: turned.misfit / std::num::nearest_u64_to_f64(intervals as u64),
+            misfit: turned.misfit / place.intervals,
             edges: turned.edges,
-            next,
+            next: place.bottom(by_speed.x, by_cell.x),
             refusal: first(turned.refusal, first(by_speed.refusal, by_cell.refusal)),
         }
-    }
-
-    fn refused(refusal: u8) -> Step {
-        let nowhere = Drive {
-            speed: 0.0,
-            cell: 0.0,
-        };
-        let mut step = Step::to(nowhere);
-        step.refusal = refusal;
-        step
     }
 }
 
@@ -547,32 +521,28 @@ fn is_small(x: f64) -> bool {
     (x < SETTLED) & (0.0 - x < SETTLED)
 }
 
-impl Drive {
-    // How long a cell is as this drive reads it, as the model records it.
-    pub(crate) fn seen(self) -> f64 {
-        self.cell * (1.0 / self.speed)
-    }
-
+impl Place {
     // A Gauss-Newton step. Of what pulls, the misfit is a parabola in the time of a turn, of curvature 2 * turns, and
-    // one in the length of a cell as it is read, of curvature 2 * cells; so the slopes by speed and cell are turned into
-    // slopes by these two, each is taken to the bottom of its parabola, and the two moves into moves of speed and cell,
-    // all by the model's own derivatives.
-    fn moved(self, by_speed: f64, by_cell: f64, pull: Pull) -> Drive {
-        let turn = 1.0 / self.speed;
+    // one in the length of a cell as it is read, of curvature 2 * cells. So the slopes by speed and cell are turned into
+    // slopes by these two, each of these goes to the bottom of its parabola, and the two moves are turned into moves of
+    // speed and cell, all by the model's own derivatives.
+    fn bottom(self, by_speed: f64, by_cell: f64) -> Drive {
+        let drive = self.drive;
+        let turn = 1.0 / drive.speed;
         let by_seen = by_cell / turn;
-        let by_turn = 0.0 - by_speed / (turn * turn) - self.cell * by_seen;
-        let turn_move = 0.0 - by_turn / (2.0 * pull.turns);
-        let seen_move = bottom(by_seen, pull.cells);
+        let by_turn = 0.0 - by_speed / (turn * turn) - drive.cell * by_seen;
+        let turn_move = down(by_turn, self.turns);
+        let seen_move = down(by_seen, self.cells);
         let speed_move = 0.0 - turn_move / (turn * turn);
         Drive {
-            speed: self.speed + speed_move,
-            cell: self.cell + seen_move / turn + self.cell * turn * speed_move,
+            speed: drive.speed + speed_move,
+            cell: drive.cell + seen_move / turn + drive.cell * turn * speed_move,
         }
     }
 }
 
 // Where nothing pulls, nothing moves.
-fn bottom(slope: f64, pull: f64) -> f64 {
+fn down(slope: f64, pull: f64) -> f64 {
     if pull > 0.0 {
         return 0.0 - slope / (2.0 * pull);
     }

@@ -157,7 +157,7 @@ fn fit_turns(
     let last = steps.last;
     let reached = last.drive;
     let by_cells = judged.by_cells;
-    let told = report::verdict(out, name, judged, reached, reading.intervals);
+    let told = report::verdict(out, name, judged, reached, reading);
     let told = report::by_cells(told, by_cells);
     let told = report::turns(told, revolutions, times, ends, ticks, judged.seen, median);
     Ended {

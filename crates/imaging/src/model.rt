@@ -19,6 +19,13 @@ pub struct Drive {
     pub cell: f64,
 }
 
+impl Drive {
+    // How long a cell is as this drive reads it, to the bit as the model records it.
+    pub(crate) fn seen(self) -> f64 {
+        self.cell * (1.0 / self.speed)
+    }
+}
+
 // An operation of document 01's table, with its operands.
 pub struct Operation {
     pub operation: u8,

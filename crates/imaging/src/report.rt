@@ -34,18 +34,26 @@ pub(crate) fn no_name(out: Out, argument: usize) -> Out {
         .text(b": not the name of a file\n")
 }
 
-pub(crate) fn verdict(out: Out, name: &[u8], judged: Judged, drive: Drive, all: usize) -> Out {
+pub(crate) fn verdict(
+    out: Out,
+    name: &[u8],
+    judged: Judged,
+    drive: Drive,
+    reading: Reading,
+) -> Out {
     let named = out.text(name).text(b": ");
+    let all = reading.intervals;
     if judged.is_fitted() {
-        return fitted(named, drive, judged.off, all).text(b"\n");
+        return fitted(named, drive, judged.off, reading.revolutions, all).text(b"\n");
     }
     let verdict = judged.verdict;
     why_not(named.text(b"not fitted: "), verdict, all).text(b"\n")
 }
 
-fn fitted(out: Out, drive: Drive, off: usize, all: usize) -> Out {
+fn fitted(out: Out, drive: Drive, off: usize, turns: usize, all: usize) -> Out {
     let named = settings(out.text(b"fitted: speed "), drive);
-    intervals_off(named.text(b"; "), off, all)
+    let counted = named.text(b"; ").counted(turns, b"turn").text(b", ");
+    some_of(counted, off, all).text(b" off")
 }
 
 fn settings(out: Out, drive: Drive) -> Out {
@@ -53,10 +61,6 @@ fn settings(out: Out, drive: Drive) -> Out {
         .text(b" rpm, cell ")
         .decimal(drive.cell * NANOSECONDS, THREE)
         .text(b" ns")
-}
-
-fn intervals_off(out: Out, off: usize, all: usize) -> Out {
-    some_of(out, off, all).text(b" off")
 }
 
 fn some_of(out: Out, some: usize, all: usize) -> Out {
@@ -67,21 +71,17 @@ fn why_not(out: Out, verdict: Verdict, all: usize) -> Out {
     match verdict {
         Verdict::Refused(n) => out.text(b"refusal ").number(n),
         Verdict::HighDensity(n) => {
-            some_of(out, n, all).text(b" have one cell, as of a high density disk")
+            some_of(out, n, all).text(b" one cell long, as of a high density disk")
         }
         Verdict::Unknown(n) => {
-            some_of(out, n, all).text(b" have one cell, beside longer ones: GCR, or noise")
+            some_of(out, n, all).text(b" one cell long, beside longer ones: GCR, or noise")
         }
-        Verdict::Gcr(n) => some_of(out, n, all).text(b" have more than four cells, as in GCR"),
+        Verdict::Gcr(n) => some_of(out, n, all).text(b" longer than four cells, as in GCR"),
         Verdict::Fm(n) => {
-            some_of(out.text(b"only "), n, all).text(b" have three cells: FM, or no data")
+            some_of(out.text(b"only "), n, all).text(b" three cells long: FM, or no data")
         }
-        Verdict::Off(n) => some_of(out, n, all).text(b" are more than a quarter of a cell off"),
-        Verdict::TurnOff(i) => {
-            out.text(b"of turn ")
-                .number(i)
-                .text(b" more than an eighth of the intervals are off")
-        }
+        Verdict::Off(n) => some_of(out, n, all).text(b" more than a quarter of a cell off"),
+        Verdict::TurnOff(i) => out.text(b"more than an eighth off in turn ").number(i),
         Verdict::Unsettled => out.text(b"the steps do not settle"),
         Verdict::Fitted => out,
     }
@@ -122,8 +122,8 @@ fn turn(out: Out, number: usize, time: u32, ticks: &[u32], seen: f64, median: u3
         .text(b": ")
         .decimal(speed, THREE)
         .text(b" rpm, ");
-    let told = intervals_off(named, track::count_off(ticks, seen), ticks.len());
-    let told = whole(told, time, ticks);
+    let off = track::count_off(ticks, seen);
+    let told = whole(some_of(named, off, ticks.len()).text(b" off"), time, ticks);
     apart(told, time, median).text(b"\n")
 }
 
@@ -193,6 +193,7 @@ pub(crate) fn fault(out: Out, name: &[u8], reading: Reading) -> Out {
     fault_words(out.text(name).text(b": "), fault, reading.fault_line).text(b"\n")
 }
 
+// A fault of the file itself, or of one of its lines.
 fn fault_words(out: Out, fault: Fault, line: usize) -> Out {
     match fault {
         Fault::Missing => out.text(b"no such file"),
@@ -207,44 +208,37 @@ fn fault_words(out: Out, fault: Fault, line: usize) -> Out {
         Fault::FluxEngine => out.text(b"not text: a FluxEngine capture"),
         Fault::NotText => out.text(b"not text: a byte that no text has"),
         Fault::Empty => out.text(b"the file is empty"),
-        Fault::EmptyLine => at(out, line, b"an empty line"),
-        Fault::CarriageReturn => at(out, line, b"a carriage return: save with line feeds alone"),
-        Fault::Space => at(out, line, b"a space where none belongs"),
-        Fault::NoNumber => at(
-            out,
-            line,
-            b"neither a whole number of ticks, 1 to 99999999, nor 'revolution N'",
-        ),
-        Fault::Early => at(out, line, b"an interval before the first 'revolution N'"),
-        Fault::NoInterval => at(out, line, b"a revolution with no interval"),
-        Fault::WrongSpeed => wrong_speed(out, line),
-        Fault::PastIndex => at(
-            out,
-            line,
-            b"an interval that begins after the next index pulse",
-        ),
-        Fault::LongRevolution => limit(
-            out,
-            line,
-            MOST_IN_REVOLUTION,
-            b" intervals in a revolution",
-        ),
-        Fault::LongFile => limit(out, line, MOST_INTERVALS, b" intervals in a file"),
-        Fault::ManyRevolutions => limit(out, line, MOST_REVOLUTIONS, b" revolutions in a file"),
+        _ => line_words(out.text(b"line ").number(line).text(b": "), fault),
     }
 }
 
-fn at(out: Out, line: usize, why: &[u8]) -> Out {
-    out.text(b"line ").number(line).text(b": ").text(why)
+fn line_words(out: Out, fault: Fault) -> Out {
+    match fault {
+        Fault::EmptyLine => out.text(b"an empty line"),
+        Fault::CarriageReturn => out.text(b"a carriage return: save with line feeds alone"),
+        Fault::Space => out.text(b"a space where none belongs"),
+        Fault::NoNumber => {
+            out.text(b"neither a whole number of ticks, 1 to 99999999, nor 'revolution N'")
+        }
+        Fault::Early => out.text(b"an interval before the first 'revolution N'"),
+        Fault::NoInterval => out.text(b"a revolution with no interval"),
+        Fault::WrongSpeed => wrong_speed(out),
+        Fault::PastIndex => out.text(b"an interval that begins after the next index pulse"),
+        Fault::LongRevolution => limit(out, MOST_IN_REVOLUTION, b" intervals in a revolution"),
+        Fault::LongFile => limit(out, MOST_INTERVALS, b" intervals in a file"),
+        Fault::ManyRevolutions => limit(out, MOST_REVOLUTIONS, b" revolutions in a file"),
+        _ => out,
+    }
 }
 
-fn wrong_speed(out: Out, line: usize) -> Out {
-    at(out, line, b"not a 300 rpm drive, whose revolution takes ").number(SHORTEST_TURN as usize)
+fn wrong_speed(out: Out) -> Out {
+    out.text(b"not a 300 rpm drive, whose revolution takes ")
+        .number(SHORTEST_TURN as usize)
         .text(b" to ")
         .number(LONGEST_TURN as usize)
         .text(b" ticks")
 }
 
-fn limit(out: Out, line: usize, most: usize, what: &[u8]) -> Out {
-    at(out, line, b"more than ").number(most).text(what)
+fn limit(out: Out, most: usize, what: &[u8]) -> Out {
+    out.text(b"more than ").number(most).text(what)
 }
