@@ -29,21 +29,34 @@ pub(crate) fn read(name: &[u8], times: &mut Times, ends: &mut Ends, ticks: &mut 
     reading.ended()
 }
 
-// Why the last call on a file failed.
 fn unreadable() -> Reading
     ensures { λ r. ⌜ Within r ⌝ }
 {
+    Reading::new().this_line(last_error())
+}
+
+// Why the last call on a file failed.
+fn last_error() -> Fault {
     let error = os::errno();
     if (error == libc::ENOENT) | (error == libc::ENOTDIR) {
-        return Reading::new().this_line(Fault::Missing);
+        return Fault::Missing;
     }
     if (error == libc::EACCES) | (error == libc::EPERM) {
-        return Reading::new().this_line(Fault::Denied);
+        return Fault::Denied;
     }
     if error == libc::EISDIR {
-        return Reading::new().this_line(Fault::Folder);
+        return Fault::Folder;
     }
-    Reading::new().this_line(Fault::Unreadable)
+    if error == libc::ENAMETOOLONG {
+        return Fault::LongName;
+    }
+    if error == libc::ELOOP {
+        return Fault::Circle;
+    }
+    if error == libc::EIO {
+        return Fault::Device;
+    }
+    Fault::Unreadable
 }
 
 // A proved loop has to end, and nothing says that a file does. So the loop counts its turns down, from a number that no

@@ -28,6 +28,9 @@ pub enum Fault {
     Missing,
     Denied,
     Folder,
+    LongName,
+    Circle,
+    Device,
     Unreadable,
     // What it begins with.
     Scp,
@@ -39,6 +42,7 @@ pub enum Fault {
     NotText,
     // A line.
     Empty,
+    ByteOrderMark,
     EmptyLine,
     CarriageReturn,
     Space,

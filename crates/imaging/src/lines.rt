@@ -86,6 +86,9 @@ fn fault_of_first(line: &[u8]) -> Fault {
     if begins(line, b"SQLite format") {
         return Fault::FluxEngine;
     }
+    if begins(line, b"\xef\xbb\xbf") {
+        return Fault::ByteOrderMark;
+    }
     fault_of(line)
 }
 
@@ -99,6 +102,7 @@ fn fault_of(line: &[u8]) -> Fault {
     fault_of_number(line)
 }
 
+// What is no number. One that is wrong by nothing but spaces or tabs is told so, as they are hard to see.
 fn fault_of_number(text: &[u8]) -> Fault {
     if has_control(text) {
         return Fault::NotText;
@@ -106,7 +110,7 @@ fn fault_of_number(text: &[u8]) -> Fault {
     if has(text, b'\r') {
         return Fault::CarriageReturn;
     }
-    if has(text, b' ') {
+    if is_spaced(text) {
         return Fault::Space;
     }
     Fault::NoNumber
@@ -135,11 +139,25 @@ fn begins(line: &[u8], word: &[u8]) -> bool {
 fn has_control(line: &[u8]) -> bool {
     for i in 0..line.len() {
         let byte = line[i];
-        if (byte < b' ') & (byte != b'\t') & (byte != b'\r') {
+        if ((byte < b' ') & (byte != b'\t') & (byte != b'\r')) | (byte == 127) {
             return true;
         }
     }
     false
+}
+
+// Whether the bytes that are no digits are spaces and tabs, and there is one.
+fn is_spaced(text: &[u8]) -> bool {
+    for i in 0..text.len() {
+        if !is_digit_or_space(text[i]) {
+            return false;
+        }
+    }
+    has(text, b' ') | has(text, b'\t')
+}
+
+fn is_digit_or_space(byte: u8) -> bool {
+    ((b'0' <= byte) & (byte <= b'9')) | (byte == b' ') | (byte == b'\t')
 }
 
 fn has(line: &[u8], byte: u8) -> bool {

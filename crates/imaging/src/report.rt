@@ -199,6 +199,9 @@ fn fault_words(out: Out, fault: Fault, line: usize) -> Out {
         Fault::Missing => out.text(b"no such file"),
         Fault::Denied => out.text(b"may not be read"),
         Fault::Folder => out.text(b"a folder"),
+        Fault::LongName => out.text(b"a name longer than any file's"),
+        Fault::Circle => out.text(b"a link that leads in a circle"),
+        Fault::Device => out.text(b"the device failed"),
         Fault::Unreadable => out.text(b"cannot be read"),
         Fault::Scp => out.text(b"not text: an SCP dump"),
         Fault::Kryoflux => out.text(b"not text: a KryoFlux stream"),
@@ -214,9 +217,10 @@ fn fault_words(out: Out, fault: Fault, line: usize) -> Out {
 
 fn line_words(out: Out, fault: Fault) -> Out {
     match fault {
+        Fault::ByteOrderMark => out.text(b"a byte order mark: save as plain text, without one"),
         Fault::EmptyLine => out.text(b"an empty line"),
         Fault::CarriageReturn => out.text(b"a carriage return: save with line feeds alone"),
-        Fault::Space => out.text(b"a space where none belongs"),
+        Fault::Space => out.text(b"a space or a tab where none belongs"),
         Fault::NoNumber => {
             out.text(b"neither a whole number of ticks, 1 to 99999999, nor 'revolution N'")
         }

@@ -127,7 +127,10 @@ fn one_cell(by_cells: [usize; CELLS], intervals: usize) -> Verdict {
 }
 
 fn is_fm(by_cells: [usize; CELLS], intervals: usize) -> bool {
-    (by_cells[2] < intervals / RARE) & (intervals >= ENOUGH)
+    if intervals < ENOUGH {
+        return false;
+    }
+    by_cells[2] <= (intervals - 1) / RARE
 }
 
 fn longer_than_four(by_cells: [usize; CELLS]) -> usize {
