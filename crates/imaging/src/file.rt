@@ -1,21 +1,13 @@
-// A file, opened, read piece by piece and cut into lines. Its first bytes decide the reader: there is one, of texts
-// (lines.rt), and another would hand its turns over in the same way (flux.rt).
+// A file, opened, read piece by piece and closed. The pieces go to the reader of texts (lines.rt); a reader of another
+// format would take them in its place, and hand its turns over in the same way (flux.rt).
 use crate::flux::Ends;
 use crate::flux::Fault;
 use crate::flux::Reading;
 use crate::flux::Times;
 use crate::lines;
-ghost use Prim.Native.Nat.{_≤_};
+use crate::lines::LONGEST;
+use crate::lines::Progress;
 ghost use Rattle.imaging.specs.Flux.{Within};
-
-// The bytes of `revolution 99999999`: no longer line means anything.
-const LONGEST: usize = 19;
-
-// What was read, and how many bytes of a line stand unfinished.
-struct Progress {
-    reading: Reading,
-    pending: usize,
-}
 
 pub(crate) fn read(name: &[u8], times: &mut Times, ends: &mut Ends, ticks: &mut [u32]) -> Reading
     ensures { λ r. ⌜ Within r ⌝ }
@@ -59,8 +51,7 @@ fn last_error() -> Fault {
     Fault::Unreadable
 }
 
-// A proved loop has to end, and nothing says that a file does. So the loop counts its turns down, from a number that no
-// run uses up.
+// A proved loop has to end, and nothing says that a file does. So the loop counts down, from a number that no run uses up.
 fn read_all(file: i32, times: &mut Times, ends: &mut Ends, ticks: &mut [u32]) -> Reading
     ensures { λ r. ⌜ Within r ⌝ }
 {
@@ -68,12 +59,9 @@ fn read_all(file: i32, times: &mut Times, ends: &mut Ends, ticks: &mut [u32]) ->
     let piece: &mut [u8] = &mut space;
     let mut longest = [0u8; LONGEST];
     let line: &mut [u8] = &mut longest;
-    let mut progress = Progress {
-        reading: Reading::new(),
-        pending: 0,
-    };
-    let mut turns = u64::MAX;
-    while turns > 0 {
+    let mut progress = Progress::new();
+    let mut left = u64::MAX;
+    while left > 0 {
         if progress.is_faulty() {
             break;
         }
@@ -85,90 +73,8 @@ fn read_all(file: i32, times: &mut Times, ends: &mut Ends, ticks: &mut [u32]) ->
             break;
         }
         let count = io::count(got, piece);
-        progress = read_piece(progress, &piece[..count], line, times, ends, ticks);
-        turns -= 1;
+        progress = lines::read_piece(progress, &piece[..count], line, times, ends, ticks);
+        left -= 1;
     }
-    last_line(progress, line, times, ends, ticks)
-}
-
-fn read_piece(
-    before: Progress,
-    piece: &[u8],
-    line: &mut [u8],
-    times: &mut Times,
-    ends: &mut Ends,
-    ticks: &mut [u32],
-) -> Progress
-    requires { do ⌜ Within (before .reading) × (before .pending ≤ (← ⟦line.len()⟧)) ⌝ }
-    ensures { λ r. do ⌜ Within (r .reading) × (r .pending ≤ (← ⟦line.len()⟧ .entry)) ⌝ }
-{
-    let mut progress = before;
-    for i in 0..piece.len() {
-        if progress.is_faulty() {
-            break;
-        }
-        progress = take_byte(progress, piece[i], line, times, ends, ticks);
-    }
-    progress
-}
-
-// A line feed ends a line, and any other byte is kept until then.
-fn take_byte(
-    before: Progress,
-    byte: u8,
-    line: &mut [u8],
-    times: &mut Times,
-    ends: &mut Ends,
-    ticks: &mut [u32],
-) -> Progress
-    requires { do ⌜ Within (before .reading) × (before .pending ≤ (← ⟦line.len()⟧)) ⌝ }
-    ensures { λ r. do ⌜ Within (r .reading) × (r .pending ≤ (← ⟦line.len()⟧ .entry)) ⌝ }
-{
-    let reading = before.reading;
-    let pending = before.pending;
-    if byte == b'\n' {
-        let reading = lines::take_line(reading, &line[..pending], times, ends, ticks);
-        return Progress {
-            reading,
-            pending: 0,
-        };
-    }
-    if pending == line.len() {
-        let reading = lines::no_entry(reading, line);
-        return Progress { reading, pending };
-    }
-    line[pending] = byte;
-    Progress {
-        reading,
-        pending: pending + 1,
-    }
-}
-
-// The last line may lack its line feed.
-fn last_line(
-    progress: Progress,
-    line: &[u8],
-    times: &mut Times,
-    ends: &mut Ends,
-    ticks: &mut [u32],
-) -> Reading
-    requires { do ⌜ Within (progress .reading) × (progress .pending ≤ (← ⟦line.len()⟧)) ⌝ }
-    ensures { λ r. ⌜ Within r ⌝ }
-{
-    let reading = progress.reading;
-    let pending = progress.pending;
-    if pending == 0 {
-        return reading;
-    }
-    if reading.fault_line > 0 {
-        return reading;
-    }
-    lines::take_line(reading, &line[..pending], times, ends, ticks)
-}
-
-impl Progress {
-    fn is_faulty(self) -> bool {
-        let reading = self.reading;
-        reading.fault_line > 0
-    }
+    lines::last_line(progress, line, times, ends, ticks)
 }

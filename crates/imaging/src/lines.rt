@@ -1,11 +1,22 @@
-// The reader of texts: a line begins a revolution or is an interval.
+// The reader of texts: bytes are cut into lines, and a line begins a revolution or is an interval.
 use crate::digits;
 use crate::flux;
 use crate::flux::Ends;
 use crate::flux::Fault;
 use crate::flux::Reading;
 use crate::flux::Times;
+ghost use mathlib.Core.Path.{_≡_};
+ghost use Prim.Native.Nat.{_≤_};
 ghost use Rattle.imaging.specs.Flux.{Within};
+
+// The bytes of `revolution 99999999`: no longer line means anything.
+pub const LONGEST: usize = 19;
+
+// What was read, and how many bytes of a line stand unfinished.
+pub struct Progress {
+    pub reading: Reading,
+    pub pending: usize,
+}
 
 // What a line says.
 pub enum Entry {
@@ -14,7 +25,98 @@ pub enum Entry {
     Neither,
 }
 
-pub(crate) fn take_line(
+pub(crate) fn read_piece(
+    before: Progress,
+    piece: &[u8],
+    line: &mut [u8],
+    times: &mut Times,
+    ends: &mut Ends,
+    ticks: &mut [u32],
+) -> Progress
+    requires { do ⌜ Within (before .reading) × (before .pending ≤ (← ⟦line.len()⟧)) ⌝ }
+    ensures { λ r. do ⌜ Within (r .reading) × (r .pending ≤ (← ⟦line.len()⟧ .entry)) ⌝ }
+{
+    let mut progress = before;
+    for i in 0..piece.len() {
+        if progress.is_faulty() {
+            break;
+        }
+        progress = take_byte(progress, piece[i], line, times, ends, ticks);
+    }
+    progress
+}
+
+// A line feed ends a line, and any other byte is kept until then.
+fn take_byte(
+    before: Progress,
+    byte: u8,
+    line: &mut [u8],
+    times: &mut Times,
+    ends: &mut Ends,
+    ticks: &mut [u32],
+) -> Progress
+    requires { do ⌜ Within (before .reading) × (before .pending ≤ (← ⟦line.len()⟧)) ⌝ }
+    ensures { λ r. do ⌜ Within (r .reading) × (r .pending ≤ (← ⟦line.len()⟧ .entry)) ⌝ }
+{
+    let reading = before.reading;
+    let pending = before.pending;
+    if byte == b'\n' {
+        let reading = take_line(reading, &line[..pending], times, ends, ticks);
+        return Progress {
+            reading,
+            pending: 0,
+        };
+    }
+    if pending == line.len() {
+        let reading = no_entry(reading, line);
+        return Progress { reading, pending };
+    }
+    line[pending] = byte;
+    Progress {
+        reading,
+        pending: pending + 1,
+    }
+}
+
+// The last line may lack its line feed.
+pub(crate) fn last_line(
+    progress: Progress,
+    line: &[u8],
+    times: &mut Times,
+    ends: &mut Ends,
+    ticks: &mut [u32],
+) -> Reading
+    requires { do ⌜ Within (progress .reading) × (progress .pending ≤ (← ⟦line.len()⟧)) ⌝ }
+    ensures { λ r. ⌜ Within r ⌝ }
+{
+    let reading = progress.reading;
+    let pending = progress.pending;
+    if pending == 0 {
+        return reading;
+    }
+    if reading.fault_line > 0 {
+        return reading;
+    }
+    take_line(reading, &line[..pending], times, ends, ticks)
+}
+
+impl Progress {
+    pub(crate) fn new() -> Progress
+        ensures { λ r. ⌜ Within (r .reading) × (r .pending ≡ 0) ⌝ }
+    {
+        Progress {
+            reading: Reading::new(),
+            pending: 0,
+        }
+    }
+
+    pub(crate) fn is_faulty(self) -> bool {
+        let reading = self.reading;
+        reading.fault_line > 0
+    }
+}
+
+fn take_line(
     before: Reading,
     line: &[u8],
     times: &mut Times,
@@ -32,7 +134,7 @@ pub(crate) fn take_line(
 }
 
 // A line that is no entry, or the first bytes of one that is too long for any.
-pub(crate) fn no_entry(before: Reading, line: &[u8]) -> Reading
+fn no_entry(before: Reading, line: &[u8]) -> Reading
     requires { ⌜ Within before ⌝ }
     ensures { λ r. ⌜ Within r ⌝ }
 {

@@ -166,6 +166,7 @@ fn fit_turns(
     }
 }
 
+// That there are no more revolutions than times is asked again, in place of a proof.
 fn median(times: &[u32], revolutions: usize) -> u32 {
     if revolutions > times.len() {
         return 0;

@@ -20,8 +20,6 @@ use crate::verdict::CELLS;
 use crate::verdict::Judged;
 use crate::verdict::Verdict;
 ghost use Prim.Native.Nat.{_≤_};
-ghost use lib.ListN.{length};
-ghost use Rattle.imaging.specs.Flux.{Within};
 
 const RPM: f64 = 300.0;
 
@@ -95,7 +93,8 @@ pub(crate) fn by_cells(out: Out, counts: [usize; CELLS]) -> Out {
     told.text(b"\n")
 }
 
-// A line for each turn: its speed, the intervals that are off, and whether its index time stands apart.
+// A line for each turn: its speed, the intervals that are off, whether it is a part, and whether its index time stands
+// apart.
 pub(crate) fn turns(
     out: Out,
     revolutions: usize,
@@ -123,12 +122,12 @@ fn turn(out: Out, number: usize, time: u32, ticks: &[u32], seen: f64, median: u3
         .decimal(speed, THREE)
         .text(b" rpm, ");
     let off = track::count_off(ticks, seen);
-    let told = whole(some_of(named, off, ticks.len()).text(b" off"), time, ticks);
+    let told = a_part(some_of(named, off, ticks.len()).text(b" off"), time, ticks);
     apart(told, time, median).text(b"\n")
 }
 
 // A turn of which more than 1/64 was not read is told: where the speed wavers, a part does not do.
-fn whole(out: Out, time: u32, ticks: &[u32]) -> Out {
+fn a_part(out: Out, time: u32, ticks: &[u32]) -> Out {
     if time_of(ticks) < (time - time / 64) as u64 {
         return out.text(b", a part of the turn");
     }

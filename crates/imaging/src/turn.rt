@@ -34,7 +34,7 @@ enum Term {
     Interval(Operand, Operand, Weighed),
 }
 
-// What turns came to, and the tape after them; or the first refusal, after which nothing is done.
+// What turns came to, and the tape after them; or the first refusal, after which nothing is recorded.
 pub struct Turned {
     pub tape: Tape,
     pub misfit: f64,
@@ -224,6 +224,7 @@ fn operations(term: Term) -> usize {
 // The operation that comes after i others of its term, on what the last one made.
 fn operation(term: Term, i: usize, last: Operand) -> Operation {
     match term {
+        // It has no operation, so that none is asked for.
         Term::Nothing => model::add(last, last),
         Term::Index(turn, time) => of_index(i, last, turn, time),
         Term::Interval(sum, seen, weighed) => of_interval(i, last, sum, seen, weighed),

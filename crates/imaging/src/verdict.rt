@@ -5,8 +5,7 @@ use crate::fit::Steps;
 use crate::flux;
 use crate::flux::Ends;
 use crate::flux::Reading;
-ghost use Prim.Native.Nat.{_≤_, _<_};
-ghost use lib.ListN.{length};
+ghost use Prim.Native.Nat.{_≤_};
 ghost use Rattle.imaging.specs.Flux.{Within};
 
 // The first of these that holds, with the number that it rests on: document 01's refusal, how many intervals, or which
@@ -37,8 +36,8 @@ pub struct Judged {
 // MFM has intervals of 2, 3 and 4 cells. What more than 1 in 64 intervals have is common.
 const COMMON: usize = 64;
 
-// The gaps and marks of any track of MFM have intervals of 3 cells, and FM has none. Fewer than 1 in 512 are none, of so
-// many intervals that there should be some.
+// The gaps and marks of any track of MFM have intervals of 3 cells, and FM has none. Fewer than 1 in 512 are taken for
+// none, once there are so many intervals that MFM would have more.
 const RARE: usize = 512;
 
 const ENOUGH: usize = 4_096;

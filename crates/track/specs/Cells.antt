@@ -45,7 +45,7 @@ roots =
 unfoldable pub root : ℕ → Float
 root n = ofBits binary64 (getD roots (n - 1) 0)
 
--- a quarter of a cell, squared, over n cells
+-- a quarter of a nominal cell, squared, over n cells
 unfoldable pub clip : ℕ → Float
 clip n = div binary64 (float 1) (float (16 * n))
 
@@ -55,7 +55,7 @@ weighed seen ticks =
     let n = nearest-cells seen ticks in
     record { cells = n; scaled = div binary64 (in-cells ticks) (root n); root = root n; clip = clip n }
 
--- more than a quarter of a cell from its cells, each as long as is seen
+-- more than a quarter of a nominal cell from its cells, each as long as is seen
 unfoldable pub off : Float → ℕ → Bool
 off seen ticks =
     let w = weighed seen ticks in

@@ -18,7 +18,7 @@ at-most time xs = total (λ x. cond (leb x time) 1 0) xs
 abbrev pub half : ℕ → ℕ
 half n = n - n / 2
 
--- the time stands in the middle: fewer than half are below it, and half are not above it
+-- the time stands in the middle: fewer than half, rounded up, are below it, and so many at least are not above it
 unfoldable pub middle : List ℕ → ℕ → Bool
 middle xs time = ltb (below time xs) (half (length xs)) && leb (half (length xs)) (at-most time xs)
 

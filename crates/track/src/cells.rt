@@ -6,7 +6,7 @@ ghost use Rattle.track.specs.Cells.{boundaries, first-above, nearest-cel
 ghost use Rattle.track.specs.Total.{total};
 
 // An interval as it is recorded: the square of scaled - seen * root is what it is off, squared, over its cells; and the
-// clip is a quarter of a cell, squared, over its cells.
+// clip is a quarter of a nominal cell, squared, over its cells.
 pub struct Weighed {
     pub cells: usize,
     pub scaled: f64,
@@ -35,7 +35,7 @@ pub fn weigh(ticks: u32, seen: f64) -> Weighed
     }
 }
 
-// Whether an interval is more than a quarter of a cell off, so that it does not pull.
+// Whether an interval is more than a quarter of a nominal cell off, so that it does not pull.
 pub fn is_off(ticks: u32, seen: f64) -> bool
     ensures { λ r. ⌜ r ≡ off seen ticks ⌝ }
 {

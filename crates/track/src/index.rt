@@ -27,7 +27,7 @@ pub fn is_apart(time: u32, median: u32) -> bool
 // In ticks of 25 ns, of which a turn at 300 rpm has 8,000,000.
 const APART: u32 = 125_000;
 
-// Fewer than half are below it, and at least half are not above it.
+// Fewer than half, rounded up, are below it, and so many at least are not above it.
 fn is_middle(times: &[u32], time: u32) -> bool
     ensures { λ r. ⌜ r ≡ middle (now (times .entry)) time ⌝ }
 {

@@ -9,11 +9,11 @@ use Rattle.imaging.proofs.file.read_all.Statement.{statement}
 use Rattle.imaging.proofs.file.read_all.Tie as tie
 
 abbrev Inv-loop : tie.InvT-loop
-Inv-loop file times₀ ends₀ ticks₀ piece₀ line₀ progress₀ turns₀ times ends ticks piece line progress turns =
+Inv-loop file times₀ ends₀ ticks₀ piece₀ line₀ progress₀ left₀ times ends ticks piece line progress left =
     (length ticks ≡ length ticks₀) × Within (progress .reading) × (progress .pending ≤ length line)
 
 abbrev μ-loop : tie.MeasureT-loop
-μ-loop file times₀ ends₀ ticks₀ piece₀ line₀ progress₀ turns₀ times ends ticks piece line progress turns = turns
+μ-loop file times₀ ends₀ ticks₀ piece₀ line₀ progress₀ left₀ times ends ticks piece line progress left = left
 
 pub read-all-spec : {M : Type 1} → statement M
 read-all-spec =

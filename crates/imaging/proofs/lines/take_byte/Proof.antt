@@ -3,8 +3,8 @@
 use native.Mathlib.Omega.{arith}
 use borrow.Author.Needs.{needs}
 use lib.ListN.{length-take}
-use Rattle.imaging.proofs.file.take_byte.Statement.{statement}
-use Rattle.imaging.proofs.file.take_byte.Tie as tie
+use Rattle.imaging.proofs.lines.take_byte.Statement.{statement}
+use Rattle.imaging.proofs.lines.take_byte.Tie as tie
 
 pub take-byte-spec : {M : Type 1} → statement M
 take-byte-spec =

@@ -2,8 +2,8 @@
 use native.Mathlib.Omega.{arith}
 use borrow.Author.Needs.{needs}
 use lib.ListN.{length-take}
-use Rattle.imaging.proofs.file.last_line.Statement.{statement}
-use Rattle.imaging.proofs.file.last_line.Tie as tie
+use Rattle.imaging.proofs.lines.last_line.Statement.{statement}
+use Rattle.imaging.proofs.lines.last_line.Tie as tie
 
 pub last-line-spec : {M : Type 1} → statement M
 last-line-spec =

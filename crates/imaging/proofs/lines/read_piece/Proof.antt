@@ -5,8 +5,8 @@ use Prim.Native.Nat.{_≤_, _-_}
 use lib.ListN.{length}
 use Rattle.imaging.specs.Flux.{Within}
 use borrow.Author.Needs.{needs}
-use Rattle.imaging.proofs.file.read_piece.Statement.{statement}
-use Rattle.imaging.proofs.file.read_piece.Tie as tie
+use Rattle.imaging.proofs.lines.read_piece.Statement.{statement}
+use Rattle.imaging.proofs.lines.read_piece.Tie as tie
 
 abbrev Inv-loop : tie.InvT-loop
 Inv-loop piece line₀ times₀ ends₀ ticks₀ progress₀ i₀ i-end line times ends ticks progress i =
