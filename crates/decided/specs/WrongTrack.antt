@@ -63,7 +63,7 @@ count-off-tried = a-number (total (cells.one-if-off one) ticks) 3 ∷ a-number (
 abbrev pub pulling-cells-tried : List Tried
 pulling-cells-tried = a-number (total (cells.cells-if-pulling one) ticks) 16 ∷ a-number (total (cells.cells-if-pulling one) ticks) 3 ∷ []
 
--- median: the one that stands between the others; of two the upper; their mean
+-- median: the one at the middle place of the list; of two the upper; their mean
 abbrev pub median-tried : List Tried
 median-tried =
     a-number (index.median (5 ∷ 1 ∷ 4 ∷ [])) 1
