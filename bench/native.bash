@@ -1,4 +1,4 @@
-# Read by run: optimised builds of both sides for this machine. `programs` names what is built.
+# Read by run and fit: optimised builds of both sides for this machine. `programs` names what is built.
 
 build_rust() { # DRIVER
     need_cargo
@@ -23,7 +23,7 @@ build_loaded() {
     local tools
     tools=$(kit_tools)
     prove_program "$1" || fail "the port does not check"
-    printf '#!/bin/sh\nexec %q --library-path %q %q\n' "$tools/lib/ld-linux-x86-64.so.2" "$tools/lib" "$repository/target/bin/$1" >"$bench/target/$1"
+    printf '#!/bin/sh\nexec %q --library-path %q %q "$@"\n' "$tools/lib/ld-linux-x86-64.so.2" "$tools/lib" "$repository/target/bin/$1" >"$bench/target/$1"
     chmod +x "$bench/target/$1"
     programs[port]=$bench/target/$1
 }

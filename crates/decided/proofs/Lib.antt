@@ -5,6 +5,7 @@ pub mod Expr
 pub mod Dual
 pub mod Listing
 pub mod Text
+pub mod Track
 pub mod Open
 pub mod Wrong
 pub mod Proved

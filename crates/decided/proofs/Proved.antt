@@ -5,16 +5,19 @@ use Rattle.decided.specs.Expr.{Expr}
 use Rattle.decided.specs.Dual.{Dual}
 use Rattle.decided.specs.Listing.{Listing}
 use Rattle.decided.specs.Text.{Text}
+use Rattle.decided.specs.Track.{Track}
 use Rattle.decided.specs.Open.{Open}
 use Rattle.decided.specs.WrongNumbers.{NumbersTried}
 use Rattle.decided.specs.WrongCalls.{CallsTried}
 use Rattle.decided.specs.WrongText.{TextTried}
+use Rattle.decided.specs.WrongTrack.{TrackTried}
 use Rattle.decided.proofs.Forward as forward
 use Rattle.decided.proofs.Tape as of-tape
 use Rattle.decided.proofs.Expr as of-expr
 use Rattle.decided.proofs.Dual as of-dual
 use Rattle.decided.proofs.Listing as of-listing
 use Rattle.decided.proofs.Text as of-text
+use Rattle.decided.proofs.Track as of-track
 use Rattle.decided.proofs.Open as open-ones
 use Rattle.decided.proofs.Wrong as wrong
 
@@ -48,6 +51,9 @@ listing = of-listing.listing
 text : Text
 text = of-text.text
 
+track : Track
+track = of-track.track
+
 all-open : Open
 all-open = open-ones.all-open
 
@@ -59,3 +65,6 @@ calls-tried = wrong.calls-tried
 
 text-tried : TextTried
 text-tried = of-text.text-tried
+
+track-tried : TrackTried
+track-tried = of-track.track-tried

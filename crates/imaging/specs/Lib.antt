@@ -1,2 +1,3 @@
 pub mod Flux
+pub mod Tally
 pub mod Text

@@ -5,55 +5,10 @@ ghost use Prim.Native.Nat.{_≤_};
 ghost use lib.ListN.{length, take};
 ghost use Rattle.imaging.specs.Text.{number, without, with-decimals, rounded};
 
-// What a line says.
-pub enum Entry {
-    Revolution(u32),
-    Interval(u32),
-    Neither,
-}
-
-// The first bytes of a line that begins a revolution: `revolution`, and a space.
-const WORD: usize = 11;
-
-pub(crate) fn read_entry(line: &[u8]) -> Entry {
-    if line.len() > WORD {
-        if begins_revolution(line) {
-            return revolution(read_number(&line[WORD..]));
-        }
-    }
-    interval(read_number(line))
-}
-
-fn begins_revolution(line: &[u8]) -> bool
-    requires { ⌜ 11 ≤ length (now line) ⌝ }
-{
-    let word = b"revolution ";
-    for i in 0..WORD {
-        if line[i] != word[i] {
-            return false;
-        }
-    }
-    true
-}
-
-fn revolution(ticks: u32) -> Entry {
-    if ticks == 0 {
-        return Entry::Neither;
-    }
-    Entry::Revolution(ticks)
-}
-
-fn interval(ticks: u32) -> Entry {
-    if ticks == 0 {
-        return Entry::Neither;
-    }
-    Entry::Interval(ticks)
-}
-
 const MOST_DIGITS: usize = 8;
 
 // The number that 1 to 8 digits make. It is 0 where the text is anything else, and 0 ticks are none.
-fn read_number(text: &[u8]) -> u32
+pub(crate) fn read_number(text: &[u8]) -> u32
     ensures { λ r. ⌜ r ≡ number (now (text .entry)) ⌝ }
 {
     match text::read_digits(text, MOST_DIGITS) {

@@ -1,28 +1,38 @@
-// The fit: steps down the gradient of the misfit of all revolutions.
+// The fit: steps to the least misfit of all turns.
+use crate::flux;
 use crate::flux::Ends;
 use crate::flux::Reading;
 use crate::flux::Times;
 use crate::model;
 use crate::model::Drive;
+use crate::model::MODEL_NODES;
 use crate::model::Made;
 use crate::model::Model;
-use crate::report;
-use crate::revolution;
-use crate::revolution::Turned;
+use crate::turn;
+use crate::turn::INDEX_NODES;
+use crate::turn::INTERVAL_NODES;
+use crate::turn::Index;
+use crate::turn::TURN;
+use crate::turn::Turned;
 use dual::Cleared;
 use dual::Read;
 use tape::MOST_EDGES;
-use tape::MOST_NODES;
 use tape::Tape;
 ghost use Prim.Native.Nat.{_≤_};
 ghost use Rattle.imaging.specs.Flux.{Within};
 
-const SLOTS: usize = MOST_EDGES * MOST_NODES;
+// The tape has room for the model and one part of a turn. A small one stays in the processor's cache.
+const NODES: usize = MODEL_NODES + INDEX_NODES + INTERVAL_NODES * track::PART;
 
-const MOST_STEPS: usize = 512;
+const SLOTS: usize = MOST_EDGES * NODES;
 
-// How much an interval of 4 cells pulls, the longest that MFM has: its cells, squared. An index time weighs as much.
-const LONGEST_PULL: f64 = 16.0;
+pub const MOST_STEPS: usize = 64;
+
+// After so many steps a track of which too many intervals are off is given up: noise can creep on for hundreds.
+const PATIENCE: usize = 12;
+
+// Of a file or a turn, at most one interval in so many may be off.
+const MOST_OFF: usize = 8;
 
 // A move of either parameter that is less than this no longer shows in what is written.
 const SETTLED: f64 = 1.0 / 268_435_456.0;
@@ -38,9 +48,27 @@ pub struct Step {
     pub refusal: u8,
 }
 
-// Where a step is taken, its model, and what its revolutions came to.
-struct Gathered {
+// The steps that were taken, in order, and the last of them.
+pub struct Steps {
+    pub taken: usize,
+    pub last: Step,
+    pub misfit: [f64; MOST_STEPS],
+    pub speed: [f64; MOST_STEPS],
+    pub cell: [f64; MOST_STEPS],
+    pub edges: [u64; MOST_STEPS],
+}
+
+// Where a step is taken, of how many intervals, and how much pulls there: turns whose index time does, and the cells of
+// the intervals that do.
+struct Place {
     drive: Drive,
+    intervals: f64,
+    turns: f64,
+    cells: f64,
+}
+
+// The model of a step, and what its turns came to so far.
+struct Gathered {
     model: Model,
     turned: Turned,
 }
@@ -51,16 +79,17 @@ struct Slope {
     refusal: u8,
 }
 
-pub(crate) fn fit(name: &[u8], reading: Reading, times: &Times, ends: &Ends, ticks: &[u32])
+// All steps, from the speed of the median index time and nominal cells on.
+pub(crate) fn fit(reading: Reading, times: &Times, ends: &Ends, ticks: &[u32], median: u32) -> Steps
     requires { ⌜ Within reading ⌝ }
 {
-    let mut value = [0.0; MOST_NODES];
-    let mut adjoint = [0.0; MOST_NODES];
-    let mut serial = [0u64; MOST_NODES];
-    let mut count = [0u8; MOST_NODES];
+    let mut value = [0.0; NODES];
+    let mut adjoint = [0.0; NODES];
+    let mut serial = [0u64; NODES];
+    let mut count = [0u8; NODES];
     let mut child = [0u16; SLOTS];
     let mut partial = [0.0; SLOTS];
-    let last = run(
+    run(
         &mut value,
         &mut adjoint,
         &mut serial,
@@ -71,18 +100,10 @@ pub(crate) fn fit(name: &[u8], reading: Reading, times: &Times, ends: &Ends, tic
         times,
         ends,
         ticks,
-    );
-    let read = least(reading.intervals, ticks.len());
-    let fitted = last.next;
-    report::end(
-        name,
-        last,
-        reading,
-        revolution::count_clipped(&ticks[..read], fitted),
-    );
+        median,
+    )
 }
 
-// The last step, or the one that was refused.
 fn run(
     value: &mut [f64],
     adjoint: &mut [f64],
@@ -94,16 +115,18 @@ fn run(
     times: &Times,
     ends: &Ends,
     ticks: &[u32],
-) -> Step
+    median: u32,
+) -> Steps
     requires { ⌜ Within reading ⌝ }
 {
-    let mut step = Step::none();
+    let mut steps = Steps::none(median);
     for i in 0..MOST_STEPS {
-        if step.is_over() {
+        let before = steps.last;
+        if before.is_over() | is_given_up(i, before, reading, ticks) {
             break;
         }
-        step = take_step(
-            step,
+        let step = take_step(
+            before,
             value,
             adjoint,
             serial,
@@ -114,15 +137,28 @@ fn run(
             times,
             ends,
             ticks,
+            median,
         );
-        report::step(i + 1, step);
+        steps = steps.with(i, step);
     }
-    step
+    steps
 }
 
-// A step makes the calls of document 01's demand 3, in its order: start, the model, mark, clear; for each revolution
-// its misfit, the pass to the mark, the rewind; at last the pass from the mark to the start.
-// So the two adjoints that it reads are those of one long tape of all revolutions
+fn is_given_up(taken: usize, last: Step, reading: Reading, ticks: &[u32]) -> bool {
+    if taken < PATIENCE {
+        return false;
+    }
+    let drive = last.drive;
+    are_too_many_off(flux::of_all(reading, ticks), drive.seen())
+}
+
+pub(crate) fn are_too_many_off(ticks: &[u32], seen: f64) -> bool {
+    track::count_off(ticks, seen) > ticks.len() / MOST_OFF
+}
+
+// A step makes the calls of document 01's demand 3, in its order: start, the model, mark, clear; for each part of each
+// turn its misfit, the pass to the mark, the rewind; at last the pass from the mark to the start.
+// So the two adjoints that it reads are those of one long tape of all turns
 // (crates/revolutions/specs/Revolutions.antt).
 fn take_step(
     before: Step,
@@ -136,53 +172,52 @@ fn take_step(
     times: &Times,
     ends: &Ends,
     ticks: &[u32],
+    median: u32,
 ) -> Step
     requires { ⌜ Within reading ⌝ }
 {
-    let gathered = gather(
-        before,
+    let drive = before.next;
+    let place = place_at(drive, reading, times, ticks, median);
+    let tape = before.tape;
+    let summed = gather(
+        tape,
         value,
         adjoint,
         serial,
         count,
         child,
         partial,
+        drive,
         reading.revolutions,
         times,
         ends,
         ticks,
+        median,
     );
-    finish(
-        gathered,
-        value,
-        adjoint,
-        serial,
-        count,
-        child,
-        partial,
-        reading.intervals,
-    )
+    finish(summed, value, adjoint, serial, count, child, partial, place)
 }
 
 // Everything up to the last pass.
 fn gather(
-    before: Step,
+    tape: Tape,
     value: &mut [f64],
     adjoint: &mut [f64],
     serial: &mut [u64],
     count: &mut [u8],
     child: &mut [u16],
     partial: &mut [f64],
+    drive: Drive,
     revolutions: usize,
     times: &Times,
     ends: &Ends,
     ticks: &[u32],
+    median: u32,
 ) -> Gathered
     requires { ⌜ revolutions ≤ 64 ⌝ }
 {
-    let mut gathered = begin(before, value, adjoint, serial, count, child, partial);
-    let marked = gathered.turned;
-    let model = gathered.model;
+    let begun = begin(tape, value, adjoint, serial, count, child, partial, drive);
+    let model = begun.model;
+    let marked = begun.turned;
     let turned = turn_all(
         marked,
         value,
@@ -196,31 +231,26 @@ fn gather(
         times,
         ends,
         ticks,
+        median,
     );
-    gathered.turned = turned;
-    gathered
+    Gathered { model, turned }
 }
 
 // The model, the mark behind it, and its adjoints cleared.
 fn begin(
-    before: Step,
+    tape: Tape,
     value: &mut [f64],
     adjoint: &mut [f64],
     serial: &mut [u64],
     count: &mut [u8],
     child: &mut [u16],
     partial: &mut [f64],
+    drive: Drive,
 ) -> Gathered {
-    let tape = before.tape;
-    let drive = before.next;
     let start = Made::started(tape);
     let model = model::record_model(start, value, adjoint, serial, count, child, partial, drive);
     let turned = mark(model, value, adjoint, serial, count, child, partial);
-    Gathered {
-        drive,
-        model,
-        turned,
-    }
+    Gathered { model, turned }
 }
 
 fn mark(
@@ -259,14 +289,13 @@ fn turn_all(
     times: &Times,
     ends: &Ends,
     ticks: &[u32],
+    median: u32,
 ) -> Turned
     requires { ⌜ revolutions ≤ 64 ⌝ }
 {
     let mut turned = marked;
     for i in 0..revolutions {
-        let end = least(ends[i + 1], ticks.len());
-        let from = least(ends[i], end);
-        turned = revolution::turn(
+        turned = turn::turn(
             turned,
             value,
             adjoint,
@@ -275,20 +304,46 @@ fn turn_all(
             child,
             partial,
             model,
-            times[i],
-            &ticks[from..end],
+            index_of(times[i], median),
+            flux::of_turn(i, ends, ticks),
         );
     }
     turned
 }
 
-fn least(a: usize, b: usize) -> usize
-    ensures { λ r. ⌜ (r ≤ a) × (r ≤ b) ⌝ }
-{
-    if a < b { a } else { b }
+fn index_of(time: u32, median: u32) -> Index {
+    if track::is_apart(time, median) {
+        return Index::Nothing;
+    }
+    Index::Pulls(time)
 }
 
-// The last pass, and a step down the slope that it leaves at the parameters.
+fn place_at(drive: Drive, reading: Reading, times: &Times, ticks: &[u32], median: u32) -> Place
+    requires { ⌜ Within reading ⌝ }
+{
+    let cells = track::pulling_cells(flux::of_all(reading, ticks), drive.seen());
+    let turns = pulling_turns(reading.revolutions, times, median);
+    Place {
+        drive,
+        intervals: std::num::nearest_u64_to_f64(reading.intervals as u64),
+        turns: std::num::nearest_u64_to_f64(turns),
+        cells: std::num::nearest_u64_to_f64(cells as u64),
+    }
+}
+
+fn pulling_turns(revolutions: usize, times: &Times, median: u32) -> u64
+    requires { ⌜ revolutions ≤ 64 ⌝ }
+{
+    let mut turns = 0;
+    for i in 0..revolutions {
+        if !track::is_apart(times[i], median) {
+            turns = std::num::wrapping_add_u64(turns, 1);
+        }
+    }
+    turns
+}
+
+// The last pass, unless something was refused before, and the step that it leads to.
 fn finish(
     gathered: Gathered,
     value: &mut [f64],
@@ -297,26 +352,13 @@ fn finish(
     count: &mut [u8],
     child: &mut [u16],
     partial: &mut [f64],
-    intervals: usize,
+    place: Place,
 ) -> Step {
-    let before = gathered.turned;
-    let tape = before.tape;
-    if before.refusal > 0 {
-        return Step::refused(before.refusal);
-    }
-    let turned = before.passed(dual::passes::propagate_mark_to_start(
-        tape,
-        value,
-        adjoint,
-        serial,
-        count,
-        child,
-        partial,
-    ));
     let model = gathered.model;
-    let drive = gathered.drive;
-    step_down(
-        turned,
+    let turned = gathered.turned;
+    let passed = pass_model(turned, value, adjoint, serial, count, child, partial);
+    step_from(
+        passed,
         value,
         adjoint,
         serial,
@@ -324,12 +366,36 @@ fn finish(
         child,
         partial,
         model,
-        drive,
-        intervals,
+        place,
     )
 }
 
-fn step_down(
+fn pass_model(
+    before: Turned,
+    value: &mut [f64],
+    adjoint: &mut [f64],
+    serial: &mut [u64],
+    count: &mut [u8],
+    child: &mut [u16],
+    partial: &mut [f64],
+) -> Turned {
+    if before.refusal > 0 {
+        return before;
+    }
+    let tape = before.tape;
+    before.passed(dual::passes::propagate_mark_to_start(
+        tape,
+        value,
+        adjoint,
+        serial,
+        count,
+        child,
+        partial,
+    ))
+}
+
+// By the slope that the passes left at the parameters.
+fn step_from(
     turned: Turned,
     value: &[f64],
     adjoint: &[f64],
@@ -338,8 +404,7 @@ fn step_down(
     child: &[u16],
     partial: &[f64],
     model: Model,
-    drive: Drive,
-    intervals: usize,
+    place: Place,
 ) -> Step {
     let tape = turned.tape;
     let speed = model.speed;
@@ -355,13 +420,7 @@ fn step_down(
         speed,
     );
     let by_cell = dual::reading::adjoint(tape, value, adjoint, serial, count, child, partial, cell);
-    Step::taken(
-        turned,
-        intervals,
-        drive,
-        slope_of(by_speed),
-        slope_of(by_cell),
-    )
+    Step::taken(turned, place, slope_of(by_speed), slope_of(by_cell))
 }
 
 fn slope_of(read: Read) -> Slope {
@@ -374,24 +433,57 @@ fn slope_of(read: Read) -> Slope {
     }
 }
 
+impl Steps {
+    // Before the first step.
+    fn none(median: u32) -> Steps {
+        let start = Drive {
+            speed: TURN / median as f64,
+            cell: 1.0,
+        };
+        let last = Step::to(start);
+        let misfit = [0.0; MOST_STEPS];
+        let speed = [0.0; MOST_STEPS];
+        let cell = [0.0; MOST_STEPS];
+        let edges = [0u64; MOST_STEPS];
+        Steps {
+            taken: 0,
+            last,
+            misfit,
+            speed,
+            cell,
+            edges,
+        }
+    }
+
+    // Step i, counted from 0.
+    fn with(mut self, i: usize, step: Step) -> Steps
+        requires { ⌜ i ≤ 63 ⌝ }
+    {
+        let drive = step.drive;
+        self.taken = i + 1;
+        self.last = step;
+        self.misfit[i] = step.misfit;
+        self.speed[i] = drive.speed;
+        self.cell[i] = drive.cell;
+        self.edges[i] = step.edges;
+        self
+    }
+}
+
 impl Step {
-    // Before the first step, which is taken at nominal settings.
-    fn none() -> Step {
+    // Before the first step, which is taken there.
+    fn to(next: Drive) -> Step {
         let tape = Tape::new();
         let nowhere = Drive {
             speed: 0.0,
             cell: 0.0,
-        };
-        let nominal = Drive {
-            speed: 1.0,
-            cell: 1.0,
         };
         Step {
             tape,
             drive: nowhere,
             misfit: 0.0,
             edges: 0,
-            next: nominal,
+            next,
             refusal: 0,
         }
     }
@@ -407,34 +499,17 @@ impl Step {
         self.is_settled() | (self.refusal > 0)
     }
 
-    fn taken(
-        turned: Turned,
-        intervals: usize,
-        drive: Drive,
-        by_speed: Slope,
-        by_cell: Slope,
-    ) -> Step {
+    fn taken(turned: Turned, place: Place, by_speed: Slope, by_cell: Slope) -> Step {
         let tape = turned.tape;
-        let all = std::num::nearest_u64_to_f64(intervals as u64);
-        let steep = all * steepest(drive);
-        let next = Drive {
-            speed: drive.speed - by_speed.x / steep,
-            cell: drive.cell - by_cell.x / steep,
-        };
+        let drive = place.drive;
         Step {
             tape,
             drive,
-            misfit: turned.misfit / all,
+            misfit: turned.misfit / place.intervals,
             edges: turned.edges,
-            next,
+            next: place.bottom(by_speed.x, by_cell.x),
             refusal: first(turned.refusal, first(by_speed.refusal, by_cell.refusal)),
         }
-    }
-
-    fn refused(refusal: u8) -> Step {
-        let mut step = Step::none();
-        step.refusal = refusal;
-        step
     }
 }
 
@@ -446,11 +521,30 @@ fn is_small(x: f64) -> bool {
     (x < SETTLED) & (0.0 - x < SETTLED)
 }
 
-// No direction is steeper, an interval, than the two parameters' curvatures together: a step of the gradient over this
-// much overshoots on no track of MFM.
-fn steepest(drive: Drive) -> f64 {
-    let turn = 1.0 / drive.speed;
-    let by_cell = turn * turn;
-    let by_speed = by_cell * by_cell * (drive.cell * drive.cell + 1.0);
-    2.0 * LONGEST_PULL * (by_speed + by_cell)
+impl Place {
+    // A Gauss-Newton step. Of what pulls, the misfit is a parabola in the time of a turn, of curvature 2 * turns, and
+    // one in the length of a cell as it is read, of curvature 2 * cells. So the slopes by speed and cell are turned into
+    // slopes by these two, each of these goes to the bottom of its parabola, and the two moves are turned into moves of
+    // speed and cell, all by the model's own derivatives.
+    fn bottom(self, by_speed: f64, by_cell: f64) -> Drive {
+        let drive = self.drive;
+        let turn = 1.0 / drive.speed;
+        let by_seen = by_cell / turn;
+        let by_turn = 0.0 - by_speed / (turn * turn) - drive.cell * by_seen;
+        let turn_move = down(by_turn, self.turns);
+        let seen_move = down(by_seen, self.cells);
+        let speed_move = 0.0 - turn_move / (turn * turn);
+        Drive {
+            speed: drive.speed + speed_move,
+            cell: drive.cell + seen_move / turn + drive.cell * turn * speed_move,
+        }
+    }
+}
+
+// Where nothing pulls, nothing moves.
+fn down(slope: f64, pull: f64) -> f64 {
+    if pull > 0.0 {
+        return 0.0 - slope / (2.0 * pull);
+    }
+    0.0
 }

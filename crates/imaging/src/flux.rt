@@ -1,16 +1,16 @@
-// What a file holds, line by line, and whether its lines are in order. The intervals of all revolutions go into one
-// lent slice, one after another, in ticks of 25 ns.
-use crate::digits;
-use crate::digits::Entry;
+// The turns that a file holds, and whether they are in order. A reader hands them over one by one, an index time with
+// `begin_revolution` and then each interval with `add_interval`. The intervals of all turns go into one lent slice, one
+// after another, in ticks of 25 ns.
+ghost use Prim.Native.Nat.{_≤_};
 ghost use Rattle.imaging.specs.Flux.{Within};
 
 pub const MOST_REVOLUTIONS: usize = 64;
 
 pub const ENDS: usize = MOST_REVOLUTIONS + 1;
 
-pub const MOST_IN_REVOLUTION: usize = 8_192;
+pub const MOST_IN_REVOLUTION: usize = 131_072;
 
-pub const MOST_INTERVALS: usize = 65_536;
+pub const MOST_INTERVALS: usize = 524_288;
 
 // A turn at 300 rpm, less a tenth and more a tenth.
 pub const SHORTEST_TURN: u32 = 7_200_000;
@@ -24,46 +24,58 @@ pub type Times = [u32; MOST_REVOLUTIONS];
 pub type Ends = [usize; ENDS];
 
 pub enum Fault {
+    // The file itself.
+    Missing,
+    Denied,
+    Folder,
+    LongName,
+    Circle,
+    Device,
     Unreadable,
+    // What it begins with.
+    Scp,
+    Kryoflux,
+    Hfe,
+    Ipf,
+    Applesauce,
+    FluxEngine,
+    NotText,
+    // A line.
     Empty,
+    ByteOrderMark,
+    EmptyLine,
+    CarriageReturn,
+    Space,
     NoNumber,
+    // The turns.
     Early,
     NoInterval,
     WrongSpeed,
+    PastIndex,
     LongRevolution,
     LongFile,
     ManyRevolutions,
 }
 
-// How far a file was read. A line is an interval or begins a revolution, so that both together count the lines.
+// How far a file was read. An entry is an interval or begins a revolution, so that both together count the entries.
 pub struct Reading {
     pub revolutions: usize,
     pub intervals: usize,
-    // The intervals of the last revolution.
+    // The intervals of the last revolution, their time together, and its index time.
     pub latest: usize,
+    pub spent: u64,
+    pub time: u32,
     pub fault: Fault,
-    // The line that is at fault, or 0 where none is.
+    // The entry that is at fault, which is its line in a text, or 0 where none is.
     pub fault_line: usize,
 }
 
-pub(crate) fn take_line(
+pub(crate) fn begin_revolution(
     before: Reading,
-    line: &[u8],
+    time: u32,
     times: &mut Times,
     ends: &mut Ends,
-    ticks: &mut [u32],
 ) -> Reading
-    requires { ⌜ Within before ⌝ }
-    ensures { λ r. ⌜ Within r ⌝ }
-{
-    match digits::read_entry(line) {
-        Entry::Revolution(time) => begin_revolution(before, time, times, ends),
-        Entry::Interval(time) => add_interval(before, time, ends, ticks),
-        Entry::Neither => before.this_line(Fault::NoNumber),
-    }
-}
-
-fn begin_revolution(before: Reading, time: u32, times: &mut Times, ends: &mut Ends) -> Reading
     requires { ⌜ Within before ⌝ }
     ensures { λ r. ⌜ Within r ⌝ }
 {
@@ -87,10 +99,17 @@ fn begin_revolution(before: Reading, time: u32, times: &mut Times, ends: &mut En
     let mut after = before;
     after.revolutions = revolutions + 1;
     after.latest = 0;
+    after.spent = 0;
+    after.time = time;
     after
 }
 
-fn add_interval(before: Reading, time: u32, ends: &mut Ends, ticks: &mut [u32]) -> Reading
+pub(crate) fn add_interval(
+    before: Reading,
+    ticks_of_it: u32,
+    ends: &mut Ends,
+    ticks: &mut [u32],
+) -> Reading
     requires { ⌜ Within before ⌝ }
     ensures { λ r. ⌜ Within r ⌝ }
 {
@@ -99,18 +118,43 @@ fn add_interval(before: Reading, time: u32, ends: &mut Ends, ticks: &mut [u32]) 
     if revolutions == 0 {
         return before.this_line(Fault::Early);
     }
+    if before.spent > before.time as u64 {
+        return before.this_line(Fault::PastIndex);
+    }
     if before.latest >= MOST_IN_REVOLUTION {
         return before.this_line(Fault::LongRevolution);
     }
     if intervals >= ticks.len() {
         return before.this_line(Fault::LongFile);
     }
-    ticks[intervals] = time;
+    ticks[intervals] = ticks_of_it;
     ends[revolutions] = intervals + 1;
     let mut after = before;
     after.intervals = intervals + 1;
     after.latest = before.latest + 1;
+    after.spent = before.spent + ticks_of_it as u64;
     after
+}
+
+// The intervals of turn i. That the ends lie in order within the ticks is asked again, in place of a proof.
+pub(crate) fn of_turn<'a, 'b>(i: usize, ends: &'b Ends, ticks: &'a [u32]) -> &'a [u32]
+    requires { ⌜ i ≤ 63 ⌝ }
+{
+    let end = least(ends[i + 1], ticks.len());
+    let from = least(ends[i], end);
+    &ticks[from..end]
+}
+
+// The intervals of all turns.
+pub(crate) fn of_all<'a>(reading: Reading, ticks: &'a [u32]) -> &'a [u32] {
+    let read = least(reading.intervals, ticks.len());
+    &ticks[..read]
+}
+
+pub(crate) fn least(a: usize, b: usize) -> usize
+    ensures { λ r. ⌜ (r ≤ a) × (r ≤ b) ⌝ }
+{
+    if a < b { a } else { b }
 }
 
 impl Reading {
@@ -121,6 +165,8 @@ impl Reading {
             revolutions: 0,
             intervals: 0,
             latest: 0,
+            spent: 0,
+            time: 0,
             fault: Fault::Empty,
             fault_line: 0,
         }
@@ -143,7 +189,7 @@ impl Reading {
         self
     }
 
-    // Every line before this one is counted.
+    // Every entry before this one is counted.
     pub(crate) fn this_line(self, fault: Fault) -> Reading
         requires { ⌜ Within self ⌝ }
         ensures { λ r. ⌜ Within r ⌝ }
@@ -166,6 +212,8 @@ impl Reading {
             revolutions: self.revolutions,
             intervals: self.intervals,
             latest: self.latest,
+            spent: self.spent,
+            time: self.time,
             fault,
             fault_line: line,
         }

@@ -19,6 +19,13 @@ pub struct Drive {
     pub cell: f64,
 }
 
+impl Drive {
+    // How long a cell is as this drive reads it, to the bit as the model records it.
+    pub(crate) fn seen(self) -> f64 {
+        self.cell * (1.0 / self.speed)
+    }
+}
+
 // An operation of document 01's table, with its operands.
 pub struct Operation {
     pub operation: u8,
@@ -44,7 +51,7 @@ pub struct Model {
     pub seen: Made,
 }
 
-const NODES: usize = 4;
+pub const MODEL_NODES: usize = 4;
 
 pub(crate) fn record_model(
     start: Made,
@@ -57,7 +64,7 @@ pub(crate) fn record_model(
     drive: Drive,
 ) -> Model {
     let mut model = Model::none(start);
-    for i in 0..NODES {
+    for i in 0..MODEL_NODES {
         let last = model.seen;
         let made = record(
             last,

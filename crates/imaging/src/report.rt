@@ -1,7 +1,8 @@
-// What is written to standard output.
-use crate::digits;
-use crate::digits::Rounded;
-use crate::fit::Step;
+// What is written of a file: a line with its verdict or its fault, and under it what the verdict rests on.
+use crate::fit::MOST_STEPS;
+use crate::fit::Steps;
+use crate::flux;
+use crate::flux::Ends;
 use crate::flux::Fault;
 use crate::flux::LONGEST_TURN;
 use crate::flux::MOST_IN_REVOLUTION;
@@ -9,183 +10,238 @@ use crate::flux::MOST_INTERVALS;
 use crate::flux::MOST_REVOLUTIONS;
 use crate::flux::Reading;
 use crate::flux::SHORTEST_TURN;
+use crate::flux::Times;
 use crate::model::Drive;
-use libc::STDOUT_FILENO;
+use crate::out::NINE;
+use crate::out::Out;
+use crate::out::THREE;
+use crate::turn::TURN;
+use crate::verdict::CELLS;
+use crate::verdict::Judged;
+use crate::verdict::Verdict;
 ghost use Prim.Native.Nat.{_≤_};
-ghost use lib.ListN.{length};
-
-// With how many decimals a number is written.
-struct Decimals {
-    places: usize,
-    scale: f64,
-}
-
-const THREE: Decimals = Decimals {
-    places: 3,
-    scale: 1_000.0,
-};
-
-const NINE: Decimals = Decimals {
-    places: 9,
-    scale: 1_000_000_000.0,
-};
 
 const RPM: f64 = 300.0;
 
 const NANOSECONDS: f64 = 2_000.0;
 
 // That an argument is empty, or longer than any file's name.
-pub(crate) fn no_name(argument: usize) {
-    number(b"argument ", argument);
-    text(b": not the name of a file\n");
+pub(crate) fn no_name(out: Out, argument: usize) -> Out {
+    out.text(b"argument ")
+        .number(argument)
+        .text(b": not the name of a file\n")
 }
 
-pub(crate) fn sizes(name: &[u8], reading: Reading) {
-    text(name);
-    counted(b": ", reading.revolutions, b"revolution");
-    counted(b", ", reading.intervals, b"interval");
-    text(b"\n");
-}
-
-// A step that was refused has no line of its own.
-pub(crate) fn step(i: usize, step: Step) {
-    if step.refusal > 0 {
-        return;
+pub(crate) fn verdict(
+    out: Out,
+    name: &[u8],
+    judged: Judged,
+    drive: Drive,
+    reading: Reading,
+) -> Out {
+    let named = out.text(name).text(b": ");
+    let all = reading.intervals;
+    if judged.is_fitted() {
+        return fitted(named, drive, judged.off, reading.revolutions, all).text(b"\n");
     }
-    text(b"step ");
-    if i < 100 {
-        text(b" ");
+    let verdict = judged.verdict;
+    why_not(named.text(b"not fitted: "), verdict, all).text(b"\n")
+}
+
+fn fitted(out: Out, drive: Drive, off: usize, turns: usize, all: usize) -> Out {
+    let named = settings(out.text(b"fitted: speed "), drive);
+    let counted = named.text(b"; ").counted(turns, b"turn").text(b", ");
+    some_of(counted, off, all).text(b" off")
+}
+
+fn settings(out: Out, drive: Drive) -> Out {
+    out.decimal(drive.speed * RPM, THREE)
+        .text(b" rpm, cell ")
+        .decimal(drive.cell * NANOSECONDS, THREE)
+        .text(b" ns")
+}
+
+fn some_of(out: Out, some: usize, all: usize) -> Out {
+    out.number(some).text(b" of ").counted(all, b"interval")
+}
+
+fn why_not(out: Out, verdict: Verdict, all: usize) -> Out {
+    match verdict {
+        Verdict::Refused(n) => out.text(b"refusal ").number(n),
+        Verdict::HighDensity(n) => {
+            some_of(out, n, all).text(b" one cell long, as of a high density disk")
+        }
+        Verdict::Unknown(n) => {
+            some_of(out, n, all).text(b" one cell long, beside longer ones: GCR, or noise")
+        }
+        Verdict::Gcr(n) => some_of(out, n, all).text(b" longer than four cells, as in GCR"),
+        Verdict::Fm(n) => {
+            some_of(out.text(b"only "), n, all).text(b" three cells long: FM, or no data")
+        }
+        Verdict::Off(n) => some_of(out, n, all).text(b" more than a quarter of a cell off"),
+        Verdict::TurnOff(i) => out.text(b"more than an eighth off in turn ").number(i),
+        Verdict::Unsettled => out.text(b"the steps do not settle"),
+        Verdict::Fitted => out,
     }
-    if i < 10 {
-        text(b" ");
+}
+
+pub(crate) fn by_cells(out: Out, counts: [usize; CELLS]) -> Out {
+    let mut told = out.text(b"  intervals of 1 to 8 cells:");
+    for i in 0..CELLS {
+        told = told.text(b" ").number(counts[i]);
     }
-    number(b"", i);
-    decimal(b": misfit ", step.misfit, NINE);
-    let drive = step.drive;
-    settings(b", speed ", drive);
-    large(b", ", step.edges);
-    text(b" edges\n");
+    told.text(b"\n")
 }
 
-// Where the last step leads, or why there is no result.
-pub(crate) fn end(name: &[u8], last: Step, reading: Reading, clipped: u64) {
-    if last.refusal > 0 {
-        text(name);
-        number(b": refusal ", last.refusal as usize);
-    } else if !last.is_settled() {
-        text(name);
-        text(b": not fitted: the steps do not settle");
-    } else if clipped > reading.intervals as u64 / 8 {
-        text(name);
-        off(b": not fitted: ", clipped, reading);
-    } else {
-        fitted(last, reading, clipped);
+// A line for each turn: its speed, the intervals that are off, whether it is a part, and whether its index time stands
+// apart.
+pub(crate) fn turns(
+    out: Out,
+    revolutions: usize,
+    times: &Times,
+    ends: &Ends,
+    ticks: &[u32],
+    seen: f64,
+    median: u32,
+) -> Out
+    requires { ⌜ revolutions ≤ 64 ⌝ }
+{
+    let mut told = out;
+    for i in 0..revolutions {
+        let intervals = flux::of_turn(i, ends, ticks);
+        told = turn(told, i + 1, times[i], intervals, seen, median);
     }
-    text(b"\n");
+    told
 }
 
-fn fitted(last: Step, reading: Reading, clipped: u64) {
-    let drive = last.next;
-    settings(b"fitted: speed ", drive);
-    counted(b", from ", reading.revolutions, b"revolution");
-    off(b"; ", clipped, reading);
+fn turn(out: Out, number: usize, time: u32, ticks: &[u32], seen: f64, median: u32) -> Out {
+    let speed = RPM * TURN / time as f64;
+    let named = out.text(b"  turn ")
+        .number(number)
+        .text(b": ")
+        .decimal(speed, THREE)
+        .text(b" rpm, ");
+    let off = track::count_off(ticks, seen);
+    let told = a_part(some_of(named, off, ticks.len()).text(b" off"), time, ticks);
+    apart(told, time, median).text(b"\n")
 }
 
-fn off(before: &[u8], clipped: u64, reading: Reading) {
-    large(before, clipped);
-    counted(b" of ", reading.intervals, b"interval");
-    text(b" more than a quarter of a cell off");
+// A turn of which more than 1/64 was not read is told: where the speed wavers, a part does not do.
+fn a_part(out: Out, time: u32, ticks: &[u32]) -> Out {
+    if time_of(ticks) < (time - time / 64) as u64 {
+        return out.text(b", a part of the turn");
+    }
+    out
 }
 
-pub(crate) fn fault(name: &[u8], reading: Reading) {
-    text(name);
+fn time_of(ticks: &[u32]) -> u64 {
+    let mut sum = 0;
+    for i in 0..ticks.len() {
+        sum = std::num::wrapping_add_u64(sum, wide(ticks[i]));
+    }
+    sum
+}
+
+fn wide(x: u32) -> u64 {
+    x as u64
+}
+
+fn apart(out: Out, time: u32, median: u32) -> Out {
+    if track::is_apart(time, median) {
+        return out.text(b", its index time apart from the others and left out");
+    }
+    out
+}
+
+// A line for each step: where it was taken, the misfit there, and the edges that its passes visited.
+pub(crate) fn steps(out: Out, steps: Steps, verbose: bool) -> Out {
+    let mut told = out;
+    for i in 0..shown(steps.taken, verbose) {
+        let drive = Drive {
+            speed: steps.speed[i],
+            cell: steps.cell[i],
+        };
+        told = step(told, i + 1, steps.misfit[i], drive, steps.edges[i]);
+    }
+    told
+}
+
+fn shown(taken: usize, verbose: bool) -> usize
+    ensures { λ r. ⌜ r ≤ 64 ⌝ }
+{
+    if verbose {
+        return flux::least(taken, MOST_STEPS);
+    }
+    0
+}
+
+fn step(out: Out, number: usize, misfit: f64, drive: Drive, edges: u64) -> Out {
+    let named = out.text(b"  step ")
+        .number(number)
+        .text(b": misfit ")
+        .decimal(misfit, NINE)
+        .text(b", speed ");
+    settings(named, drive)
+        .text(b", ")
+        .large(edges)
+        .text(b" edges\n")
+}
+
+pub(crate) fn fault(out: Out, name: &[u8], reading: Reading) -> Out {
     let fault = reading.fault;
-    let line = reading.fault_line;
+    fault_words(out.text(name).text(b": "), fault, reading.fault_line).text(b"\n")
+}
+
+// A fault of the file itself, or of one of its lines.
+fn fault_words(out: Out, fault: Fault, line: usize) -> Out {
     match fault {
-        Fault::Unreadable => text(b": cannot be read"),
-        Fault::Empty => at(line, b"the file is empty"),
-        Fault::NoNumber => at(
-            line,
-            b"neither a whole number of ticks, 1 to 99999999, nor 'revolution N'",
-        ),
-        Fault::Early => at(line, b"an interval before the first 'revolution N'"),
-        Fault::NoInterval => at(line, b"a revolution with no interval"),
-        Fault::WrongSpeed => wrong_speed(line),
-        Fault::LongRevolution => limit(line, MOST_IN_REVOLUTION, b" intervals in a revolution"),
-        Fault::LongFile => limit(line, MOST_INTERVALS, b" intervals in a file"),
-        Fault::ManyRevolutions => limit(line, MOST_REVOLUTIONS, b" revolutions in a file"),
-    }
-    text(b"\n");
-}
-
-fn at(line: usize, why: &[u8]) {
-    number(b": line ", line);
-    text(b": ");
-    text(why);
-}
-
-fn wrong_speed(line: usize) {
-    at(line, b"not a 300 rpm drive, whose revolution takes ");
-    number(b"", SHORTEST_TURN as usize);
-    number(b" to ", LONGEST_TURN as usize);
-    text(b" ticks");
-}
-
-fn limit(line: usize, most: usize, what: &[u8]) {
-    at(line, b"more than ");
-    number(b"", most);
-    text(what);
-}
-
-fn settings(before: &[u8], drive: Drive) {
-    decimal(before, drive.speed * RPM, THREE);
-    decimal(b" rpm, cell ", drive.cell * NANOSECONDS, THREE);
-    text(b" ns");
-}
-
-fn counted(before: &[u8], n: usize, what: &[u8]) {
-    number(before, n);
-    text(b" ");
-    text(what);
-    if n != 1 {
-        text(b"s");
+        Fault::Missing => out.text(b"no such file"),
+        Fault::Denied => out.text(b"may not be read"),
+        Fault::Folder => out.text(b"a folder"),
+        Fault::LongName => out.text(b"a name longer than any file's"),
+        Fault::Circle => out.text(b"a link that leads in a circle"),
+        Fault::Device => out.text(b"the device failed"),
+        Fault::Unreadable => out.text(b"cannot be read"),
+        Fault::Scp => out.text(b"not text: an SCP dump"),
+        Fault::Kryoflux => out.text(b"not text: a KryoFlux stream"),
+        Fault::Hfe => out.text(b"not text: an HFE image"),
+        Fault::Ipf => out.text(b"not text: an IPF image"),
+        Fault::Applesauce => out.text(b"not text: an Applesauce image"),
+        Fault::FluxEngine => out.text(b"not text: a FluxEngine capture"),
+        Fault::NotText => out.text(b"not text: a byte that no text has"),
+        Fault::Empty => out.text(b"the file is empty"),
+        _ => line_words(out.text(b"line ").number(line).text(b": "), fault),
     }
 }
 
-fn decimal(before: &[u8], x: f64, decimals: Decimals)
-    requires { ⌜ decimals .places ≤ 11 ⌝ }
-{
-    text(before);
-    match digits::round(x, decimals.scale) {
-        Rounded::To(n) => rounded(n, decimals.places),
-        Rounded::OutOfRange => text(b"out of range"),
+fn line_words(out: Out, fault: Fault) -> Out {
+    match fault {
+        Fault::ByteOrderMark => out.text(b"a byte order mark: save as plain text, without one"),
+        Fault::EmptyLine => out.text(b"an empty line"),
+        Fault::CarriageReturn => out.text(b"a carriage return: save with line feeds alone"),
+        Fault::Space => out.text(b"a space or a tab where none belongs"),
+        Fault::NoNumber => {
+            out.text(b"neither a whole number of ticks, 1 to 99999999, nor 'revolution N'")
+        }
+        Fault::Early => out.text(b"an interval before the first 'revolution N'"),
+        Fault::NoInterval => out.text(b"a revolution with no interval"),
+        Fault::WrongSpeed => wrong_speed(out),
+        Fault::PastIndex => out.text(b"an interval that begins after the next index pulse"),
+        Fault::LongRevolution => limit(out, MOST_IN_REVOLUTION, b" intervals in a revolution"),
+        Fault::LongFile => limit(out, MOST_INTERVALS, b" intervals in a file"),
+        Fault::ManyRevolutions => limit(out, MOST_REVOLUTIONS, b" revolutions in a file"),
+        _ => out,
     }
 }
 
-fn rounded(n: u64, places: usize)
-    requires { ⌜ places ≤ 11 ⌝ }
-{
-    let mut space = [0u8; digits::WIDTH];
-    let out: &mut [u8] = &mut space;
-    let end = digits::write_decimals(out, n, places);
-    text_to(out, end);
+fn wrong_speed(out: Out) -> Out {
+    out.text(b"not a 300 rpm drive, whose revolution takes ")
+        .number(SHORTEST_TURN as usize)
+        .text(b" to ")
+        .number(LONGEST_TURN as usize)
+        .text(b" ticks")
 }
 
-fn text_to(bytes: &[u8], end: usize)
-    requires { ⌜ end ≤ length (now bytes) ⌝ }
-{
-    text(&bytes[..end]);
-}
-
-fn number(before: &[u8], n: usize) {
-    large(before, n as u64);
-}
-
-fn large(before: &[u8], n: u64) {
-    text(before);
-    io::print_decimal(STDOUT_FILENO, n);
-}
-
-fn text(bytes: &[u8]) {
-    io::write_all(STDOUT_FILENO, bytes);
+fn limit(out: Out, most: usize, what: &[u8]) -> Out {
+    out.text(b"more than ").number(most).text(what)
 }

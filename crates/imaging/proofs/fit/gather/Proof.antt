@@ -1,7 +1,7 @@
--- `gather` leaves every lent array as long as it was. That there are few revolutions lies too far back for `search`:
--- the record after the first call leads there.
-use borrow.Author.Needs.{needs}
+-- `gather` leaves every lent array as long as it was. That there are few turns, and what the first call kept of one
+-- array, lies too far back for `search`: the record after that call leads there.
 use native.Mathlib.Omega.{arith}
+use borrow.Author.Needs.{needs}
 use Rattle.imaging.proofs.fit.gather.Statement.{statement}
 use Rattle.imaging.proofs.fit.gather.Tie as tie
 
@@ -11,4 +11,6 @@ gather-spec =
     (tie.spec
     (λ c κs. search needs)
     (λ c κs. omega (arith, c .before .before .before .before .before .before .before .before .before .before .before .before))
-    (λ c. search needs) (λ c. search needs) (λ c. search needs) (λ c. search needs) (λ c. search needs) (λ c. search needs) (λ c. search needs))
+    (λ c. omega (arith, c .before .before .before .before .before .before .before .before .before .before .before .before))
+    (λ c. search needs) (λ c. search needs) (λ c. search needs) (λ c. search needs) (λ c. search needs)
+    (λ c. search needs))

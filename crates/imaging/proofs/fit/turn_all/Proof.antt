@@ -1,16 +1,15 @@
--- `turn_all` is safe and ends: the loop's index stays within the revolutions, and no lent array changes its length.
+-- `turn_all` is safe and ends: the index stays within the turns, and no lent array changes its length.
 use mathlib.Core.Path.{_≡_}
-use Prim.Native.Nat.{_≤_, _<_, _-_, _*_, _^_}
+use Prim.Native.Nat.{_≤_, _-_}
 use lib.ListN.{length}
 use borrow.Author.Needs.{needs}
 use Rattle.imaging.proofs.fit.turn_all.Statement.{statement}
 use Rattle.imaging.proofs.fit.turn_all.Tie as tie
 
 abbrev Inv-loop : tie.InvT-loop
-Inv-loop value₀ adjoint₀ serial₀ count₀ child₀ partial₀ model revolutions times ends ticks turned₀ i₀ value adjoint serial count child partial turned i =
+Inv-loop value₀ adjoint₀ serial₀ count₀ child₀ partial₀ model revolutions times ends ticks median turned₀ i₀ value adjoint serial count child partial turned i =
     (i ≤ revolutions)
     × (revolutions ≤ 64)
-    × (length ticks * 4 < 2 ^ 63)
     × (length value ≡ length value₀)
     × (length adjoint ≡ length adjoint₀)
     × (length serial ≡ length serial₀)
@@ -19,8 +18,7 @@ Inv-loop value₀ adjoint₀ serial₀ count₀ child₀ partial₀ model revolu
     × (length partial ≡ length partial₀)
 
 abbrev μ-loop : tie.MeasureT-loop
-μ-loop value₀ adjoint₀ serial₀ count₀ child₀ partial₀ model revolutions times ends ticks turned₀ i₀ value adjoint serial count child partial turned i =
-    revolutions - i
+μ-loop value₀ adjoint₀ serial₀ count₀ child₀ partial₀ model revolutions times ends ticks median turned₀ i₀ value adjoint serial count child partial turned i = revolutions - i
 
 pub turn-all-spec : {M : Type 1} → statement M
 turn-all-spec =
@@ -28,4 +26,7 @@ turn-all-spec =
     (tie.spec
     Inv-loop
     μ-loop
-    (λ c. search needs) (λ c. search needs) (λ c. search needs) (λ c. search needs) (λ c κs. search needs) (λ c. search needs) (λ c. search needs) (λ c κs. search needs) (λ c. search needs) (λ c. search needs) (λ c. search needs) (λ c. search needs) (λ c. search needs) (λ c. search needs) (λ c κs. search needs) (λ c. search needs) (λ c. search needs) (λ c. search needs) (λ c. search needs) (λ c. search needs) (λ c. search needs) (λ c. search needs) (λ c. search needs) (λ c. search needs) (λ c. search needs))
+    (λ c. search needs) (λ c. search needs) (λ c. search needs) (λ c κs. search needs) (λ c κs. search needs)
+    (λ c κs. search needs) (λ c. search needs) (λ c. search needs) (λ c. search needs) (λ c. search needs)
+    (λ c. search needs) (λ c. search needs) (λ c. search needs) (λ c. search needs) (λ c. search needs)
+    (λ c. search needs))

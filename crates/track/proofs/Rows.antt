@@ -1,0 +1,33 @@
+-- Every row and every root: both sides are computed.
+use mathlib.Core.Path.{refl}
+use lib.Ieee.{sub, mul, div, lt, le, ofInt, ofBits}
+use Rattle.track.specs.Cells.{nearest-cells, root, clip, weighed, off}
+use Rattle.track.specs.Index.{below, at-most, middle, median, apart}
+use Rattle.track.specs.Rows.{EveryRow, EveryRoot}
+
+pub every-root : EveryRoot
+every-root = refl
+
+pub every-row : EveryRow
+unfolding nearest-cells root clip weighed off below at-most middle median apart sub mul div lt le ofInt ofBits
+every-row = record {
+  ticks-of-a-cell = refl;
+  halfway-between = refl;
+  two-cells = refl;
+  four-cells = refl;
+  below-halfway = refl;
+  halfway = refl;
+  most-cells = refl;
+  a-quarter = refl;
+  past-a-quarter = refl;
+  of-three = refl;
+  of-two = refl;
+  of-none = refl;
+  not-apart = refl;
+  above = refl;
+  below = refl;
+  two-parts = refl;
+  whole-part = refl;
+  last-part = refl;
+  no-part = refl;
+}

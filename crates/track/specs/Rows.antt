@@ -1,0 +1,52 @@
+-- What the rules come to: worked rows, and that the table of roots is right. Both are proved in proofs/Rows.antt, by
+-- computation.
+use Prim.Native.Nat.{ℕ, suc, _+_, _-_, _*_, _/_, _%_, _^_}
+use mathlib.Core.Path.{_≡_}
+use mathlib.Core.Bool.{Bool, true, false, _&&_}
+use mathlib.Core.List.{List, [], _∷_, map}
+use lib.Dec.{ltb}
+use lib.Ieee.{Float, binary64, div, ofBits}
+use Rattle.track.specs.Cells.{float, cell, boundaries, nearest-cells, roots, off}
+use Rattle.track.specs.Index.{median, apart}
+use Rattle.track.specs.Parts.{part-count, part}
+
+-- the pattern's float is m / 2 ^ k; half a place below it the square is below n, and half a place above it above n
+abbrev pub nearest-root : ℕ → ℕ → Bool
+nearest-root n pattern =
+    let m = pattern % 2 ^ 52 + 2 ^ 52 in
+    let k = 1075 - pattern / 2 ^ 52 in
+    ltb ((2 * m - 1) ^ 2) (n * (2 * 2 ^ k) ^ 2) && ltb (n * (2 * 2 ^ k) ^ 2) ((2 * m + 1) ^ 2)
+
+-- the patterns are those of the roots of n, of n + 1, and so on
+abbrev pub roots-from : ℕ → List ℕ → Bool
+roots-from n [] = true
+roots-from n (pattern ∷ patterns) = nearest-root n pattern && roots-from (suc n) patterns
+
+abbrev pub EveryRoot : Type 0
+EveryRoot = roots-from 1 roots ≡ true
+
+-- cells as long as they nominally are
+abbrev pub one : Float
+one = float 1
+
+pub record EveryRow : Type 0 where
+  pub ticks-of-a-cell : cell ≡ float 80
+  pub halfway-between : map (ofBits binary64) boundaries ≡ map (λ n. div binary64 (float n) (float 2)) (3 ∷ 5 ∷ 7 ∷ 9 ∷ 11 ∷ 13 ∷ 15 ∷ [])
+  pub two-cells : nearest-cells one 168 ≡ 2
+  pub four-cells : nearest-cells one 312 ≡ 4
+  pub below-halfway : nearest-cells one 119 ≡ 1
+  pub halfway : nearest-cells one 120 ≡ 2
+  pub most-cells : nearest-cells one 645 ≡ 8
+  -- 4 cells and exactly a quarter; and a tick more
+  pub a-quarter : off one 340 ≡ false
+  pub past-a-quarter : off one 341 ≡ true
+  pub of-three : median (5 ∷ 1 ∷ 4 ∷ []) ≡ 4
+  pub of-two : median (8700000 ∷ 8000000 ∷ []) ≡ 8000000
+  pub of-none : median [] ≡ 0
+  pub not-apart : apart 8125000 8000000 ≡ false
+  pub above : apart 8125001 8000000 ≡ true
+  pub below : apart 7874999 8000000 ≡ true
+  pub two-parts : part-count 1025 ≡ 2
+  pub whole-part : part 1025 0 ≡ record { from = 0; end = 1024 }
+  pub last-part : part 1025 1 ≡ record { from = 1024; end = 1025 }
+  pub no-part : part 1025 2 ≡ record { from = 1025; end = 1025 }
