@@ -19,7 +19,7 @@ abbrev pub a-number : ℕ → ℕ → Tried
 a-number = tried (λ n. n ∷ [])
 
 abbrev pub a-weight : Weighed → Weighed → Tried
-a-weight = tried (λ w. w .cells ∷ bits (w .scaled) ∷ bits (w .root) ∷ bits (w .clip) ∷ [])
+a-weight = tried (λ w. bits (w .scaled) ∷ bits (w .root) ∷ bits (w .clip) ∷ [])
 
 -- from and end
 abbrev pub a-part : Part → ℕ × ℕ → Tried
@@ -43,9 +43,9 @@ nearest-cells-tried = a-number (cells.nearest-cells one 120) 1 ∷ a-number (cel
 abbrev pub weigh-tried : List Tried
 weigh-tried =
     let right = cells.weighed one 312 in
-    a-weight right (record { cells = 4; scaled = cells.in-cells 312; root = cells.root 4; clip = cells.clip 4 })
-    ∷ a-weight right (record { cells = 4; scaled = right .scaled; root = cells.root 4; clip = cells.clip 1 })
-    ∷ a-weight right (record { cells = 4; scaled = right .scaled; root = cells.float 4; clip = cells.clip 4 }) ∷ []
+    a-weight right (record { scaled = cells.in-cells 312; root = cells.root 4; clip = cells.clip 4 })
+    ∷ a-weight right (record { scaled = right .scaled; root = cells.root 4; clip = cells.clip 1 })
+    ∷ a-weight right (record { scaled = right .scaled; root = cells.float 4; clip = cells.clip 4 }) ∷ []
 
 -- is_off: off at exactly a quarter; not off past it
 abbrev pub is-off-tried : List Tried

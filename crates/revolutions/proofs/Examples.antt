@@ -14,7 +14,7 @@ use Rattle.tape.specs.Answers.{Answer}
 use Rattle.tape.specs.Steps.{step, run}
 use Rattle.tape.specs.Passes.{Unrefused}
 use Rattle.revolutions.specs.Revolutions.{resolve, calls}
-use Rattle.revolutions.specs.Examples.{three, three-calls, before, swapped, first-only, in-recording-order, idle, bits, Example, Overlapping, ApartHere}
+use Rattle.revolutions.specs.Examples.{three, three-calls, before, swapped, first-only, in-recording-order, idle, bits, Example, Overlapping, ApartHere, Cut}
 
 -- two lists whose first numbers have other bits
 unlike : (xs ys : List Float) (k l : ℕ) → getD (bits xs) 0 0 ≡ k → getD (bits ys) 0 0 ≡ l → ¬ (k ≡ l) → ¬ (xs ≡ ys)
@@ -45,3 +45,7 @@ unfolding add sub mul div neg lt le ofInt ofBits
 apart-here zero h = refl
 apart-here (suc zero) h = refl
 apart-here (suc (suc i)) h = absurd (omega arith)
+
+pub cut : Cut
+unfolding step add sub mul div neg lt le ofInt ofBits toBits
+cut = record { whole = refl; last-part-first = refl; first-part-first = refl }

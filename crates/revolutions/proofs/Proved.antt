@@ -1,6 +1,6 @@
 -- The statements of specs/, each with its proof.
 use Rattle.revolutions.specs.Answered.{Demand1}
-use Rattle.revolutions.specs.Examples.{Example, Overlapping, ApartHere}
+use Rattle.revolutions.specs.Examples.{Example, Overlapping, ApartHere, Cut}
 use Rattle.revolutions.specs.Folded.{OnLists}
 use Rattle.revolutions.specs.Revolutions.{Demand3}
 use Rattle.revolutions.specs.Trading.{TradingPlaces}
@@ -33,6 +33,9 @@ overlapping = examples.overlapping
 
 apart-here : ApartHere
 apart-here = examples.apart-here
+
+cut : Cut
+cut = examples.cut
 
 proved-table : ProvedTable
 proved-table = table.proved-table

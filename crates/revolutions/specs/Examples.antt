@@ -1,12 +1,12 @@
--- What demand 3 says of one session of three revolutions, in bits, and what would not meet it. Proved in
--- proofs/Examples.antt, by computation.
+-- What demand 3 says of one session of three revolutions, in bits, and what would not meet it; and of one revolution
+-- that is cut into parts. Proved in proofs/Examples.antt, by computation.
 -- The revolutions pass 3, 2^53 and -2^53 back to one node of the model, so that the order of the three sums shows: (0 +
 -- 3) + 2^53 is 2^53 + 4 in floats, and less 2^53 it is 4.
-use Prim.Native.Nat.{ℕ, _+_, _^_}
+use Prim.Native.Nat.{ℕ, _+_, _-_, _*_, _^_}
 use mathlib.Core.Path.{_≡_}
 use mathlib.Core.List.{List, [], _∷_, _++_, map, reverse}
 use lib.Ieee.{Float, binary64, toBits, neg}
-use lib.ListN.{take, drop, replicate}
+use lib.ListN.{length, take, drop, replicate}
 use Rattle.tape.specs.Numbers.{floats}
 use Rattle.tape.specs.Machine.{Machine}
 use Rattle.tape.specs.Operations.{LEAF, ADD, MULTIPLY, SUPPLIED-ONE}
@@ -114,3 +114,35 @@ pub record Overlapping : Type 0 where
 -- one that passes back to x and one that passes back to x * x share none
 abbrev pub ApartHere : Type 0
 ApartHere = Apart (resolve three .model) (back 0 (float 3)) (back 1 high)
+
+-- ---- a revolution in parts
+
+-- a term for each partial, passed back to node 1 of the model, and after it the sum so far: on nodes from i on, whose
+-- serials begin at k
+abbrev pub summed : ℕ → ℕ → Operand floats → List Float → List (Operation floats)
+summed i k sum [] = []
+summed i k sum (w ∷ ws) =
+    record { operation = SUPPLIED-ONE; left = node-at 1; right = unused; supplied = given (float 5) w w }
+    ∷ operation ADD sum (node (handle i k))
+    ∷ summed (i + 2) (k + 2) (node (handle (i + 1) (k + 1))) ws
+
+-- the terms from a plain 0 on; the last sum is the root
+abbrev pub part : ℕ → List Float → Revolution floats
+part k ws = record {
+  operations = summed 2 k (plain (float 0)) ws;
+  root = handle (2 * length ws + 1) (k + 2 * length ws - 1);
+}
+
+abbrev pub parts : List (Revolution floats) → Session floats
+parts revolutions = record { model = model; revolutions = revolutions }
+
+-- the session's model adjoints, in bits
+abbrev pub adjoints-of : Session floats → List ℕ
+adjoints-of s = bits (model-adjoints s (calls s) (fresh (sevens 8)))
+
+-- Three terms on one tape; cut before the third, with the last part recorded first, which leaves the same bits; and with
+-- the first part first, which does not
+pub record Cut : Type 0 where
+  pub whole : adjoints-of (parts (part 3 (neg high ∷ high ∷ float 3 ∷ []) ∷ [])) ≡ 0x4038_0000_0000_0000 ∷ 0x4010_0000_0000_0000 ∷ []
+  pub last-part-first : adjoints-of (parts (part 3 (float 3 ∷ []) ∷ part 5 (neg high ∷ high ∷ []) ∷ [])) ≡ 0x4038_0000_0000_0000 ∷ 0x4010_0000_0000_0000 ∷ []
+  pub first-part-first : adjoints-of (parts (part 3 (neg high ∷ high ∷ []) ∷ part 7 (float 3 ∷ []) ∷ [])) ≡ 0x4032_0000_0000_0000 ∷ 0x4008_0000_0000_0000 ∷ []

@@ -53,7 +53,7 @@ clip n = div binary64 (float 1) (float (16 * n))
 unfoldable pub weighed : Float → ℕ → Weighed
 weighed seen ticks =
     let n = nearest-cells seen ticks in
-    record { cells = n; scaled = div binary64 (in-cells ticks) (root n); root = root n; clip = clip n }
+    record { scaled = div binary64 (in-cells ticks) (root n); root = root n; clip = clip n }
 
 -- more than a quarter of a nominal cell from its cells, each as long as is seen
 unfoldable pub off : Float → ℕ → Bool

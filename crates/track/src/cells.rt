@@ -8,7 +8,6 @@ ghost use Rattle.track.specs.Total.{total};
 // An interval as it is recorded: the square of scaled - seen * root is what it is off, squared, over its cells; and the
 // clip is a quarter of a nominal cell, squared, over its cells.
 pub struct Weighed {
-    pub cells: usize,
     pub scaled: f64,
     pub root: f64,
     pub clip: f64,
@@ -28,7 +27,6 @@ pub fn weigh(ticks: u32, seen: f64) -> Weighed
     let cells = nearest_cells(ticks, seen);
     let root = root(cells);
     Weighed {
-        cells,
         scaled: ticks as f64 / CELL / root,
         root,
         clip: clip(cells),
