@@ -49,7 +49,7 @@ module _ (N : Numbers) (b : ℕ) where
 
 -- operations 0, 7 and 8 do not look at the right value
 right-idle : {N : Numbers} (op : ℕ) (l r x : N .Number) (g : Given N) → one-sided op ≡ true → apply op l r g ≡ apply op l x g
-right-idle op l r x g = by-one-sided (λ op. apply op l r g ≡ apply op l x g) op refl refl refl
+right-idle op l r x g = by-one-sided (λ op. apply op l r g ≡ apply op l x g) op refl refl refl refl
 
 -- equal rows make equal nodes
 by-rows : {N : Numbers} (b : ℕ) (l r : Operand N) (m : ResolvedOperand N) (s t : Row N) → s ≡ t → edge r (t .right) ≡ edge-resolved b m (t .right)
