@@ -9,7 +9,8 @@ use lib.Dec.{T}
 use lib.Pow.{pow-add, pow-pos}
 use lib.Ieee.{Float, binary64, fits, ofBits}
 use lib.Ieee.Bits.{ofBits-fits}
-use Rattle.root.specs.Root.{Units, NearestRoot, Scales}
+use Rattle.root.specs.Root.{Units, NearestRoot}
+use Rattle.root.specs.Inner.{Scales}
 use Rattle.root.proofs.Squares.{past, before-even, before-odd, odd-square, at-least, at-most}
 use Rattle.root.proofs.Grid.{multiple}
 use Rattle.root.proofs.Patterns.{subnormal, normal}

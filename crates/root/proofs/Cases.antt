@@ -1,9 +1,10 @@
 -- The cases of `sqrt`: NaN, the zeros, the infinities, the negatives, and the positive patterns. Assumes nothing.
 use mathlib.Core.Path.{_≡_, refl, sym, ap, _∙_, subst}
 use Prim.Native.Nat.{ℕ, zero, suc, _+_, _*_, _/_, _%_, _^_, _≤_, _<_}
-use native.Mathlib.Nat.{lt-of-le-of-lt, lt-irrefl, mul-pos, zero-mul, zero-lt-suc}
+use native.Mathlib.Nat.{lt-irrefl, mul-pos, zero-mul, pos-of-ne-zero}
 use native.Mathlib.Omega.{arith}
-use mathlib.Core.Bool.{Bool, true, false, not, cond, true≢false, false≢true}
+use mathlib.Core.Bool.{Bool, true, false, not, _||_, cond, true≢false, false≢true}
+use borrow.Author.Tests.{eqb-true, eqb-false}
 use lib.IntN.{ℤ}
 use lib.Dec.{T, leb, ltb, eqb, leb→le, nleb→lt, eqb→eq, ltb→lt, not-T}
 use lib.Arith.{lt-of-le-ne}
@@ -27,23 +28,45 @@ not-nan (inf s) e = tt
 not-nan (fin s m d) e = tt
 
 -- ---- a pattern that the code names
-pub read-back : (x : Float) (b : ℕ) → T (fits binary64 x) → toBits binary64 x ≡ b → x ≡ ofBits binary64 b
+read-back : (x : Float) (b : ℕ) → T (fits binary64 x) → toBits binary64 x ≡ b → x ≡ ofBits binary64 b
 read-back x b t e = sym (ofBits-toBits binary64 x t) ∙ ap (λ (z : ℕ). ofBits binary64 z) e
 
 itself : (x : Float) (b : ℕ) → T (fits binary64 x) → toBits binary64 x ≡ b → Root (ofBits binary64 b) (ofBits binary64 b) → Root x x
 itself x b t e r = subst (λ (z : Float). Root z z) (sym (read-back x b t e)) r
 
-pub of-zero : (x : Float) → T (fits binary64 x) → toBits binary64 x ≡ 0 → Root x x
-unfolding ofBits
-of-zero x t e = itself x 0 t e refl
+-- the test for what is its own root, as the code has it
+abbrev pub own : ℕ → Bool
+own b = eqb b 0 || eqb b 0x8000_0000_0000_0000 || eqb b 0x7ff0_0000_0000_0000
 
-pub of-minus-zero : (x : Float) → T (fits binary64 x) → toBits binary64 x ≡ 0x8000_0000_0000_0000 → Root x x
-unfolding ofBits
-of-minus-zero x t e = itself x 0x8000_0000_0000_0000 t e refl
+one-of : {P : Type 0} (a b c : Bool) → (a ≡ true → P) → (b ≡ true → P) → (c ≡ true → P) → a || b || c ≡ true → P
+one-of true b c f g h e = f refl
+one-of false true c f g h e = g refl
+one-of false false true f g h e = h refl
+one-of false false false f g h e = absurd (false≢true e)
 
-pub of-infinity : (x : Float) → T (fits binary64 x) → toBits binary64 x ≡ 0x7ff0_0000_0000_0000 → Root x x
+pub of-own : (x : Float) → T (fits binary64 x) → own (toBits binary64 x) ≡ true → Root x x
 unfolding ofBits
-of-infinity x t e = itself x 0x7ff0_0000_0000_0000 t e refl
+of-own x t =
+    let b = toBits binary64 x in
+    one-of (eqb b 0) (eqb b 0x8000_0000_0000_0000) (eqb b 0x7ff0_0000_0000_0000)
+    (λ e. itself x 0 t (eqb-true b 0 e) refl)
+    (λ e. itself x 0x8000_0000_0000_0000 t (eqb-true b 0x8000_0000_0000_0000 e) refl)
+    (λ e. itself x 0x7ff0_0000_0000_0000 t (eqb-true b 0x7ff0_0000_0000_0000 e) refl)
+
+none-of : (a b c : Bool) → a || b || c ≡ false → (a ≡ false) × (b ≡ false) × (c ≡ false)
+none-of true b c e = absurd (true≢false e)
+none-of false true c e = absurd (true≢false e)
+none-of false false true e = absurd (true≢false e)
+none-of false false false e = (refl, refl, refl)
+
+pub not-own : (b : ℕ) → own b ≡ false → (b ≡ 0 → ⊥) × (b ≡ 0x8000_0000_0000_0000 → ⊥) × (b ≡ 0x7ff0_0000_0000_0000 → ⊥)
+not-own b e =
+    let n = none-of (eqb b 0) (eqb b 0x8000_0000_0000_0000) (eqb b 0x7ff0_0000_0000_0000) e in
+    (eqb-false b 0 (n .0), eqb-false b 0x8000_0000_0000_0000 (n .1), eqb-false b 0x7ff0_0000_0000_0000 (n .2))
+
+-- a pattern that is none of these and not above the last of them
+pub between : (b : ℕ) → own b ≡ false → b ≤ 0x7ff0_0000_0000_0000 → (0 < b) × (b < 0x7ff0_0000_0000_0000)
+between b e h = (pos-of-ne-zero (not-own b e .0), lt-of-le-ne h (not-own b e .2))
 
 -- ---- the negatives
 no-value : (e : ℤ) (a c : ℕ) → 0 < a → zero * up e * c ≡ a * down e → ⊥

@@ -15,7 +15,7 @@ use lib.Ieee.Digits.{size-lt, size-le, size-reaches}
 use lib.Ieee.Nearest.{closest, closest-same, nearest-ge}
 use lib.Ieee.Scale.{grid, overflow, round-val}
 use Rattle.root.specs.Root.{Units, NearestRoot, Root}
-use Rattle.root.specs.Value.{wholeRoot, rounded, root}
+use Rattle.root.specs.Value.{whole-root, rounded, root}
 use Rattle.root.proofs.Squares.{square-lt}
 use Rattle.root.proofs.Halves.{root-small, root-large}
 use Rattle.root.proofs.Grid.{odd-pow, has-units, placed, low-enough, is-odd, short, under-top}
@@ -23,11 +23,11 @@ use Rattle.root.proofs.Answer.{next-up, next-down}
 use Rattle.root.proofs.Only.{only}
 
 -- ---- the whole part of a root
-root-of : (k n : ℕ) → n < 4 ^ k → (wholeRoot k n * wholeRoot k n ≤ n) × (n < (wholeRoot k n + 1) * (wholeRoot k n + 1))
-unfolding wholeRoot
+root-of : (k n : ℕ) → n < 4 ^ k → (whole-root k n * whole-root k n ≤ n) × (n < (whole-root k n + 1) * (whole-root k n + 1))
+unfolding whole-root
 root-of zero n h = (zero-le, h)
 root-of (suc k) n h =
-    let t = wholeRoot k (n / 4) in
+    let t = whole-root k (n / 4) in
     let r = root-of k (n / 4) (div-lt-iff-lt-mul (zero-lt-suc 3) .1 (subst (λ (z : ℕ). n < z) (pow-suc 4 k) h)) in
     go t (r .0) (r .1) (leb ((2 * t + 1) * (2 * t + 1)) n) (leb→le ((2 * t + 1) * (2 * t + 1)) n) (nleb→lt ((2 * t + 1) * (2 * t + 1)) n)
   where
@@ -36,8 +36,8 @@ root-of (suc k) n h =
     go t l u true y x = (y tt, omega arith)
     go t l u false y x = (omega arith, x tt)
 
-pub whole-root : (n : ℕ) → (wholeRoot (size n) n * wholeRoot (size n) n ≤ n) × (n < (wholeRoot (size n) n + 1) * (wholeRoot (size n) n + 1))
-whole-root n = root-of (size n) n (lt-of-lt-of-le (size-lt n) (pow-le-pow-left (lit≤ tt) (size n)))
+pub whole-root-so : (n : ℕ) → (whole-root (size n) n * whole-root (size n) n ≤ n) × (n < (whole-root (size n) n + 1) * (whole-root (size n) n + 1))
+whole-root-so n = root-of (size n) n (lt-of-lt-of-le (size-lt n) (pow-le-pow-left (lit≤ tt) (size n)))
 
 -- ---- what `compare` says
 abbrev Cmp : Ordering → ℕ → ℕ → Type 0
@@ -175,15 +175,15 @@ no-tie y m j k o p h l e =
 scaled : (n a b c : ℕ) → 4 * a ≡ b * c → 4 * (n * a) ≡ n * b * c
 scaled n a b c f = mul-left-comm 4 n a ∙ ap (λ (z : ℕ). n * z) f ∙ sym (mul-assoc n b c)
 
-rounded-is : (n : ℕ) → rounded n ≡ round binary64 false (2 * wholeRoot (size (n * 2 ^ 110)) (n * 2 ^ 110) + 1) (2 ^ 593)
+rounded-is : (n : ℕ) → rounded n ≡ round binary64 false (2 * whole-root (size (n * 2 ^ 110)) (n * 2 ^ 110) + 1) (2 ^ 593)
 unfolding rounded
 rounded-is n = refl
 
 pub rounded-root : (x : Float) (n m j : ℕ) → Units x n → n ≡ m * 2 ^ j → m % 2 ≡ 1 → m < 2 ^ 53 → 0 < n → n < 2 ^ 2098 → NearestRoot x (rounded n)
 rounded-root x n m j ux is-m m-odd m-short n-pos n-small =
     let v = n * 2 ^ 110 in
-    let s = wholeRoot (size v) v in
-    let W = whole-root v in
+    let s = whole-root (size v) v in
+    let W = whole-root-so v in
     let s-big : 2 ^ 55 ≤ s = root-large s (2 ^ 55) v (mul-le-mul-right (2 ^ 110) n-pos) (W .1) in
     let s-small : s < 2 ^ 1104 = root-small s (2 ^ 1104) v (W .0) (shl-lt 2098 110 n-small) in
     let sp = spread s s-big in
