@@ -6,12 +6,12 @@ use native.Mathlib.Omega.{arith}
 use mathlib.Core.Bool.{Bool, true, false, not, _||_, cond, true≢false, false≢true}
 use borrow.Author.Tests.{eqb-true, eqb-false}
 use lib.IntN.{ℤ}
-use lib.Dec.{T, leb, ltb, eqb, leb→le, nleb→lt, eqb→eq, ltb→lt, not-T}
+use lib.Dec.{T, leb, eqb, leb→le, nleb→lt, eqb→eq, ltb→lt, not-T}
 use lib.Arith.{lt-of-le-ne}
 use lib.Pow.{pow-pos}
 use lib.Ieee.{Float, nan, inf, fin, binary64, up, down, odd, ne, fits, isNan, nanBits, ofFields, ofBits, toBits}
 use lib.Ieee.Bits.{ofBits-toBits, nanBits-above}
-use lib.Ieee.Compare.{differs-from-itself, nan-differs}
+use lib.Ieee.Compare.{differs-from-itself}
 use lib.Ieee.Fits.{down-pos}
 use lib.Ieee.Exact.{HasValue, odd-sign}
 use Rattle.root.specs.Root.{Units, NearestRoot, Root}

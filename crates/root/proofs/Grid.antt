@@ -1,9 +1,10 @@
--- The doubles as whole numbers of the smallest one: each is an m below 2 ^ 53 times a power of two, so that from 2 ^ (52 + k) on each is a multiple of 2 ^ k; and the number of units says which double it is. Assumes nothing.
+-- The doubles as whole numbers of the smallest one: each is an m below 2 ^ 53 times a power of two, so that from
+-- 2 ^ (52 + k) on each is a multiple of 2 ^ k; and the number of units says which double it is. Assumes nothing.
 use mathlib.Core.Path.{_≡_, refl, sym, ap, _∙_, subst}
-use Prim.Native.Nat.{ℕ, zero, suc, _+_, _-_, _*_, _/_, _%_, _^_, _≤_, _<_}
-use native.Mathlib.Nat.{le-trans, le-of-eq, lt-of-lt-of-le, lt-of-le-of-lt, lt-of-not-le, lt-irrefl, le-of-suc-le-suc, mul-one, mul-assoc, one-mul, zero-lt-suc, eq-of-mul-eq-mul-right, mul-left-comm, pow-succ', pow-suc, add-sub-cancel, le-add-left}
+use Prim.Native.Nat.{ℕ, zero, suc, _+_, _-_, _*_, _%_, _^_, _≤_, _<_}
+use native.Mathlib.Nat.{le-trans, le-of-eq, lt-of-lt-of-le, lt-of-not-le, lt-irrefl, le-of-suc-le-suc, mul-one, mul-assoc, one-mul, zero-lt-suc, eq-of-mul-eq-mul-right, mul-left-comm, pow-succ', pow-suc, add-sub-cancel, le-add-left}
 use native.Mathlib.Omega.{arith}
-use mathlib.Core.Bool.{Bool, true, false, _&&_, not, cond}
+use mathlib.Core.Bool.{Bool, true, false, _&&_, cond}
 use lib.IntN.{ℤ, pos, negsuc}
 use lib.Dec.{T, leb, ltb, eqb, ltb→lt, leb→le, eqb→eq, le→leb}
 use lib.Arith.{lt→nleb, comp-comp}

@@ -1,6 +1,5 @@
 -- `Root` decides the result: a double has one square root. Assumes nothing.
 use mathlib.Core.Path.{_≡_, refl, sym, ap, _∙_, subst}
-use mathlib.Core.Logic.{_⊎_, inl, inr}
 use Prim.Native.Nat.{ℕ, zero, suc, _+_, _*_, _^_, _≤_, _<_}
 use native.Mathlib.Nat.{lt-irrefl, mul-pos, zero-mul, one-mul, mul-one, zero-lt-suc, eq-of-mul-eq-mul-right, pow-succ', add-comm, le-antisymm, lt-of-not-le}
 use native.Mathlib.Decide.{decLe}

@@ -1,13 +1,13 @@
--- The bit patterns of the doubles that are finite and not negative, and how many units each stands for. Assumes nothing.
+-- The bit patterns of the doubles that are finite and have no sign, and how many units each stands for. Assumes nothing.
 use mathlib.Core.Path.{_≡_, refl, sym, ap, _∙_, subst}
-use Prim.Native.Nat.{ℕ, zero, suc, _+_, _-_, _*_, _/_, _%_, _^_, _≤_, _<_}
+use Prim.Native.Nat.{ℕ, suc, _+_, _*_, _/_, _%_, _^_, _<_}
 use native.Mathlib.Nat.{mod-eq-of-lt, mul-one, not-le-of-lt}
 use native.Mathlib.Omega.{arith}
-use mathlib.Core.Bool.{Bool, true, false, not, cond}
+use mathlib.Core.Bool.{Bool, false, cond}
 use lib.Dec.{T, leb, eqb, leb→le, eqb→eq, not-T}
-use lib.Ieee.{Float, nan, inf, fin, binary64, odd, ofFields, ofBits}
+use lib.Ieee.{Float, nan, inf, binary64, odd, ofFields, ofBits}
 use lib.Ieee.Bits.{is-false, cond-no}
-use lib.Ieee.Exact.{HasValue, odd-sign}
+use lib.Ieee.Exact.{odd-sign}
 use Rattle.root.specs.Root.{Units}
 
 pub ofBits-is : (b : ℕ) → ofBits binary64 b ≡ ofFields binary64 (leb 0x8000_0000_0000_0000 b) (b % 0x8000_0000_0000_0000 / 0x10_0000_0000_0000) (b % 0x10_0000_0000_0000)

@@ -1,16 +1,12 @@
 -- `root::half_root` meets its contract. The invariant: the guess is the root's whole part or above. Assumes nothing.
 use Prim.Native.Nat.{_+_, _*_, _^_, _≤_, _<_}
-use native.Mathlib.Nat.{le-of-lt, lt-of-le-of-lt}
+use native.Mathlib.Nat.{lt-of-le-of-lt}
 use native.Mathlib.Omega.{arith}
 use lib.Dec.{lit<}
 use Rattle.root.proofs.Newton.{sq-pos}
 use Rattle.root.proofs.Halves.{square-small, step-down}
 use Rattle.root.proofs.half_root.Statement.{statement}
 use Rattle.root.proofs.half_root.Tie as tie
-use Rattle.root.proofs.half_root.Reads as reads
-use Rattle.root.proofs.half_root.Lts as lts
-use Rattle.root.proofs.closer.Reads as closer-reads
-use Rattle.root.proofs.guess.Reads as guess-reads
 
 abbrev Inv-loop : tie.InvT-loop
 Inv-loop m r₀ r = (m < (r + 1) * (r + 1)) × (r ≤ 2 ^ 30)

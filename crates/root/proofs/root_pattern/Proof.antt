@@ -7,10 +7,6 @@ use lib.Dec.{lit≤}
 use Rattle.root.proofs.Answer.{answer, once-or-twice, bit-lt}
 use Rattle.root.proofs.root_pattern.Statement.{statement}
 use Rattle.root.proofs.root_pattern.Tie as tie
-use Rattle.root.proofs.root_pattern.Reads as reads
-use Rattle.root.proofs.root_pattern.Lts as lts
-use Rattle.root.proofs.taken_apart.Reads as taken-apart-reads
-use Rattle.root.proofs.whole_root.Reads as whole-root-reads
 
 taken-apart-requires : tie.Need-taken-apart-requires
 taken-apart-requires c κs = search needs

@@ -4,9 +4,6 @@ use native.Mathlib.Omega.{arith}
 use Rattle.root.proofs.Answer.{scales-low, scales-high}
 use Rattle.root.proofs.taken_apart.Statement.{statement}
 use Rattle.root.proofs.taken_apart.Tie as tie
-use Rattle.root.proofs.taken_apart.Reads as reads
-use Rattle.root.proofs.taken_apart.Lts as lts
-use Rattle.root.proofs.shifted_up.Reads as shifted-up-reads
 
 shifted-up-requires : tie.Need-shifted-up-requires
 shifted-up-requires c κs = search needs

@@ -1,5 +1,5 @@
 -- `root::whole_root` meets its contract. Assumes nothing.
-use Prim.Native.Nat.{_+_, _-_, _*_, _/_, _%_, _^_, _≤_, _<_}
+use Prim.Native.Nat.{_-_, _*_, _/_, _%_, _^_, _≤_, _<_}
 use native.Mathlib.Nat.{lt-of-le-of-lt}
 use native.Mathlib.Omega.{arith}
 use lib.Dec.{lit<}
@@ -7,9 +7,6 @@ use borrow.Author.Needs.{needs}
 use Rattle.root.proofs.Halves.{divided, rest-lt, bounds, kept, lowered, square-small}
 use Rattle.root.proofs.whole_root.Statement.{statement}
 use Rattle.root.proofs.whole_root.Tie as tie
-use Rattle.root.proofs.whole_root.Reads as reads
-use Rattle.root.proofs.whole_root.Lts as lts
-use Rattle.root.proofs.half_root.Reads as half-root-reads
 
 all : (c : tie.After-half-root) →
     let a = c .half-root .result in
