@@ -243,7 +243,7 @@ rounded-root x n m j ux is-m m-odd m-short n-pos n-small =
     enough q h = omega arith
 
 -- ---- every case
-ceiling : (m : ℕ) (e : ℤ) (n : ℕ) → T (fits binary64 (fin false (suc m) e)) → suc m * up e * 2 ^ 1074 ≡ n * down e → n < 2 ^ 2098
+pub ceiling : (m : ℕ) (e : ℤ) (n : ℕ) → T (fits binary64 (fin false (suc m) e)) → suc m * up e * 2 ^ 1074 ≡ n * down e → n < 2 ^ 2098
 ceiling m e n t h =
     lt-of-mul-lt-mul-right (down e)
     (lt-of-le-of-lt (le-of-eq (sym h))
