@@ -34,7 +34,7 @@ returns-10 : tie.Need-returns-10
 returns-10 c = rw (c .match .keys10)
 
 returns-11 : tie.Need-returns-11
-returns-11 c = rw (c .before .match .keys11, c .sqrt .ensures .1)
+returns-11 c = rw (c .before .match .keys11, ← c .sqrt .ensures .1)
 
 returns-12 : tie.Need-returns-12
 returns-12 c = past-table (c .before .args .op) _ _ _ (past-all _ (c .match .rest .0 .0 .0 .0 .0 .0 .0 .0 .0 .0 .1) (c .match .rest .0 .0 .0 .0 .0 .0 .0 .0 .0 .1) (c .match .rest .0 .0 .0 .0 .0 .0 .0 .0 .1) (c .match .rest .0 .0 .0 .0 .0 .0 .0 .1) (c .match .rest .0 .0 .0 .0 .0 .0 .1) (c .match .rest .0 .0 .0 .0 .0 .1) (c .match .rest .0 .0 .0 .0 .1) (c .match .rest .0 .0 .0 .1) (c .match .rest .0 .0 .1) (c .match .rest .0 .1) (c .match .rest .1))
