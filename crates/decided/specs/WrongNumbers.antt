@@ -48,14 +48,16 @@ sixteen =
 
 -- ---- the wrong answers
 
--- sqrt of a float: the digits of the root of 2 cut off; +0.0 for -0.0; a number below zero without its sign; the root of
--- the least double half as large
+-- sqrt of a float: the digits of the root of 2 cut off, and those of the root of 3 rounded up; +0.0 for -0.0; for a
+-- number below zero the root of its size; NaN for +infinity; the least double taken for 0
 abbrev pub root-tried : List Tried
 root-tried =
     a-float (root (float 2)) (ofBits binary64 0x3ff6_a09e_667f_3bcc)
+    ∷ a-float (root (float 3)) (ofBits binary64 0x3ffb_b67a_e858_4cab)
     ∷ a-float (root (neg nought)) nought
     ∷ a-float (root (neg one)) one
-    ∷ a-float (root (ofBits binary64 1)) (ofBits binary64 0x1e50_0000_0000_0000)
+    ∷ a-float (root (inf false)) nan
+    ∷ a-float (root (ofBits binary64 1)) nought
     ∷ []
 
 -- constant: a derivative part of 1; the value in both parts
@@ -154,8 +156,8 @@ div-into-tried =
     at-1 (plain-quotient 1 (float 6) x) (quotient-plain 1 x (float 6))
     ∷ at-1 (plain-quotient 1 (float 49) (constant 1 (float 49))) (product-plain 1 (plain-quotient 1 one (constant 1 (float 49))) (float 49)) ∷ []
 
--- sqrt: the derivative over s; the derivative times 0.5 / s, which rounds twice; at order 2 the derivative part over the
--- innermost value alone
+-- sqrt: the derivative over s; the derivative times 1 / (s * 2.0), which rounds twice; at order 2 the derivative part
+-- over twice the innermost value of s alone
 abbrev pub sqrt-tried : List Tried
 sqrt-tried =
     at-1 (sqrt 1 (float 9, float 5)) (float 3, div binary64 (float 5) (float 3))

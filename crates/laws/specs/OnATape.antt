@@ -6,9 +6,9 @@ use mathlib.Core.Path.{_≡_}
 use mathlib.Core.List.{[], _∷_}
 use mathlib.Core.Option.{some}
 use lib.Ieee.{Float, nan, neg}
+use Rattle.root.specs.Root.{Double}
 use Rattle.forward.specs.Forward.{Fwd, nought, constant, variable, derivative, sqrt, max-val, min-val}
 use Rattle.tape.specs.Numbers.{floats}
-use Rattle.root.specs.Root.{Double}
 use Rattle.tape.specs.Operations.{Row, MAX, MIN, SQRT, apply}
 use Rattle.laws.specs.Shown.{Changed}
 

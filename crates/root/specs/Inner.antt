@@ -1,4 +1,5 @@
--- What the private function `taken_apart` promises.
+-- What the private function `taken_apart` promises. Only its proof and its caller's use it; the public promise speaks of
+-- `Root`.
 use Prim.Native.Nat.{ℕ, _*_, _^_}
 use mathlib.Core.Path.{_≡_}
 use lib.Ieee.{binary64, ofBits}

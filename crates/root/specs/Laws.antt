@@ -11,7 +11,7 @@ use Rattle.root.specs.Value.{root}
 abbrev pub Meets : Type 0
 Meets = (x : Float) → Double x → Root x (root x)
 
--- the statement lets no other answer through, whether it is a double or not
+-- of any x, a double or not, the statement lets one answer through at most
 abbrev pub Only : Type 0
 Only = (x r t : Float) → Root x r → Root x t → r ≡ t
 

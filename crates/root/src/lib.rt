@@ -33,11 +33,15 @@ const MINUS_ZERO: u64 = 0x8000_0000_0000_0000;
 
 const INFINITY: u64 = 0x7ff0_0000_0000_0000;
 
-// A pattern has the exponent above this place and 52 digits below it; a normal number has a digit 1 more, at it.
+// From this place on a pattern has the exponent, and below it 52 digits. A normal number has a digit 1 at it besides,
+// which the pattern leaves out.
 const PLACE: u64 = 0x10_0000_0000_0000;
 
-// The pattern of the root of the positive finite double with the pattern b. Half of the exponent, and the root of the
-// digits to one place more than there is room for, which rounds it.
+// The pattern of the root of the positive finite double with the pattern b, which is m * 2^(e - 1126). Where e is odd,
+// one factor 2 goes to m, so that half of the exponent is e / 2 - 563. s is the root of the digits times 2^27, one place
+// more than a pattern has room for; + 1 rounds by that place alone, since no root lies halfway between two doubles. So
+// the root is (s + 1) / 2 * 2^(e / 2 - 589). A pattern counts exponents from -1075, and the digit at PLACE adds one more:
+// 1074 - 589 is 485.
 fn root_pattern(b: u64) -> u64
     requires { ⌜ (0 < b) × (b < 0x7ff0_0000_0000_0000) ⌝ }
     ensures { λ r. ⌜ (NearestRoot (ofBits binary64 b) (ofBits binary64 r)) × (r < 0x7ff0_0000_0000_0000) ⌝ }
@@ -53,7 +57,8 @@ struct Scaled {
     e: u64,
 }
 
-// The number that the pattern b stands for, in units of 2^-1126.
+// The number that the pattern b stands for, in units of 2^-1126, of which the least double has 2^52. A normal number is
+// (PLACE + digits) * 2^(exponent - 1075), and 1126 - 1075 is 51.
 fn taken_apart(b: u64) -> Scaled
     requires { ⌜ (0 < b) × (b < 0x7ff0_0000_0000_0000) ⌝ }
     ensures { λ r. ⌜ (2 ^ 52 ≤ r .m) × (r .m < 2 ^ 53) × (r .e ≤ 2097) × Scales b (r .m) (r .e) ⌝ }
@@ -70,7 +75,7 @@ fn taken_apart(b: u64) -> Scaled
     }
 }
 
-// A subnormal number has fewer digits: they are moved up until there are 53.
+// A subnormal number has fewer digits: they are moved up until there are 53. Of 64 places 11 are left then.
 fn shifted_up(digits: u64) -> Scaled
     requires { ⌜ (0 < digits) × (digits < 2 ^ 52) ⌝ }
     ensures { λ r. ⌜
@@ -84,7 +89,7 @@ fn shifted_up(digits: u64) -> Scaled
 }
 
 // The whole part of the root of m * 2^54: the upper half of its digits is the root of m, and the lower half comes by
-// one division, and is at most one too large.
+// one division, and is at most one too large. What m * 2^54 has over s * s is u * 2^27 - q * q.
 fn whole_root(m: u64) -> u64
     requires { ⌜ (2 ^ 52 ≤ m) × (m < 2 ^ 54) ⌝ }
     ensures { λ s. ⌜ (s * s ≤ m * 2 ^ 54) × (m * 2 ^ 54 < (s + 1) * (s + 1)) × (s < 2 ^ 54) ⌝ }
@@ -100,7 +105,8 @@ fn whole_root(m: u64) -> u64
 // 2^27: the root of 2^54.
 const HALF_PLACE: u64 = 0x800_0000;
 
-// The whole part of the root of m. Two steps leave a guess that is at most one too large.
+// The whole part of the root of m. Two steps leave a guess that is at most one too large; that is reckoned and not proved,
+// so a loop takes off what is too much.
 fn half_root(m: u64) -> u64
     requires { ⌜ (2 ^ 52 ≤ m) × (m < 2 ^ 54) ⌝ }
     ensures { λ r. ⌜ (r * r ≤ m) × (m < (r + 1) * (r + 1)) ⌝ }
@@ -120,7 +126,8 @@ fn closer(m: u64, r: u64) -> u64
     (r + m / r) / 2
 }
 
-// A first guess at the root of m: one step from the middle of the roots from 2^26 on, or of those from 2^26.5 on.
+// A first guess at the root of m: one step from the middle of the roots from 2^26 on, or of those from 2^26.5 on. It is
+// written out, so that the compiler divides by a constant.
 fn guess(m: u64) -> u64
     requires { ⌜ (2 ^ 52 ≤ m) × (m < 2 ^ 54) ⌝ }
     ensures { λ r. ⌜ (m < (r + 1) * (r + 1)) × (r < 2 ^ 28) ⌝ }

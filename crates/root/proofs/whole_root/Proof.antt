@@ -17,55 +17,42 @@ all c = bounds (c .before .args .m) (c .half-root .result) (c .half-root .ensure
 half-root-requires : tie.Need-half-root-requires
 half-root-requires c κs = search needs
 
--- src/lib.rt:47:21
 mul-left : tie.Need-mul-left
 mul-left c = search needs
 
--- src/lib.rt:47:17
 sub-left : tie.Need-sub-left
 sub-left c = search needs
 
--- src/lib.rt:47:16
 mul-left-2 : tie.Need-mul-left-2
 mul-left-2 c = omega (arith, all c)
 
--- src/lib.rt:48:21
 mul-q : tie.Need-mul-q
 mul-q c = omega (arith, all c)
 
--- src/lib.rt:48:13
 div-q : tie.Need-div-q
 div-q c = omega (arith, all c)
 
--- src/lib.rt:49:21
 mul-u : tie.Need-mul-u
 mul-u c = omega (arith, all c)
 
--- src/lib.rt:49:13
 rem-u : tie.Need-rem-u
 rem-u c = omega (arith, all c)
 
--- src/lib.rt:50:13
 mul-s : tie.Need-mul-s
 mul-s c = omega (arith, all c)
 
--- src/lib.rt:50:13
 add-s : tie.Need-add-s
 add-s c = omega (arith, all c)
 
--- src/lib.rt:51:8
 mul-if1 : tie.Need-mul-if1
 mul-if1 c = omega (arith, all c)
 
--- src/lib.rt:51:25
 mul-if1-2 : tie.Need-mul-if1-2
 mul-if1-2 c = record { fits = lt-of-le-of-lt (square-small _ 0x800_0000 (all c .3)) (lit< tt) }
 
--- src/lib.rt:52:9
 sub-result : tie.Need-sub-result
 sub-result c = omega (arith, all (c .before))
 
--- src/lib.rt:42:1
 returns : tie.Need-returns
 returns c =
     let m = c .before .before .args .m in
@@ -76,7 +63,6 @@ returns c =
     (rest-lt m (h .result) (h .ensures .0) (h .ensures .1) (p .0) (p .1))
     (c .if1 .taken)
 
--- src/lib.rt:42:1
 returns-2 : tie.Need-returns-2
 returns-2 c =
     let m = c .before .before .args .m in
