@@ -1,15 +1,13 @@
 -- Every row and every root: both sides are computed.
 use mathlib.Core.Path.{refl}
-use lib.Ieee.{sub, mul, div, lt, le, ofInt, ofBits}
+use lib.Ieee.{sub, mul, div, lt, le, ofInt, ofBits, round}
+use Rattle.root.specs.Value.{root as square-root}
 use Rattle.track.specs.Cells.{nearest-cells, root, clip, weighed, off}
 use Rattle.track.specs.Index.{below, at-most, middle, median, apart}
-use Rattle.track.specs.Rows.{EveryRow, EveryRoot}
-
-pub every-root : EveryRoot
-every-root = refl
+use Rattle.track.specs.Rows.{EveryRow}
 
 pub every-row : EveryRow
-unfolding nearest-cells root clip weighed off below at-most middle median apart sub mul div lt le ofInt ofBits
+unfolding nearest-cells root clip weighed off below at-most middle median apart sub mul div lt le ofInt ofBits square-root round
 every-row = record {
   ticks-of-a-cell = refl;
   halfway-between = refl;

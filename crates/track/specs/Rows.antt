@@ -1,29 +1,11 @@
--- What the rules come to: worked rows, and that the table of roots is right. Both are proved in proofs/Rows.antt, by
--- computation.
-use Prim.Native.Nat.{ℕ, suc, _+_, _-_, _*_, _/_, _%_, _^_}
+-- What the rules come to: worked rows, proved in proofs/Rows.antt by computation.
 use mathlib.Core.Path.{_≡_}
-use mathlib.Core.Bool.{Bool, true, false, _&&_}
-use mathlib.Core.List.{List, [], _∷_, map}
-use lib.Dec.{ltb}
+use mathlib.Core.Bool.{true, false}
+use mathlib.Core.List.{[], _∷_, map}
 use lib.Ieee.{Float, binary64, div, ofBits}
-use Rattle.track.specs.Cells.{float, cell, boundaries, nearest-cells, roots, off}
+use Rattle.track.specs.Cells.{float, cell, boundaries, nearest-cells, off}
 use Rattle.track.specs.Index.{median, apart}
 use Rattle.track.specs.Parts.{part-count, part}
-
--- the pattern's float is m / 2 ^ k; half a place below it the square is below n, and half a place above it above n
-abbrev pub nearest-root : ℕ → ℕ → Bool
-nearest-root n pattern =
-    let m = pattern % 2 ^ 52 + 2 ^ 52 in
-    let k = 1075 - pattern / 2 ^ 52 in
-    ltb ((2 * m - 1) ^ 2) (n * (2 * 2 ^ k) ^ 2) && ltb (n * (2 * 2 ^ k) ^ 2) ((2 * m + 1) ^ 2)
-
--- the patterns are those of the roots of n, of n + 1, and so on
-abbrev pub roots-from : ℕ → List ℕ → Bool
-roots-from n [] = true
-roots-from n (pattern ∷ patterns) = nearest-root n pattern && roots-from (suc n) patterns
-
-abbrev pub EveryRoot : Type 0
-EveryRoot = roots-from 1 roots ≡ true
 
 -- cells as long as they nominally are
 abbrev pub one : Float
