@@ -67,3 +67,9 @@ one-if-off seen ticks = cond (off seen ticks) 1 0
 -- the cells of an interval that is not off, and so pulls
 abbrev pub cells-if-pulling : Float → ℕ → ℕ
 cells-if-pulling seen ticks = cond (off seen ticks) 0 (nearest-cells seen ticks)
+
+-- what an interval is from its cells, squared, in nominal cells; 0 for one that is off
+unfoldable pub square-if-pulling : Float → ℕ → Float
+square-if-pulling seen ticks =
+    let x = sub binary64 (in-cells ticks) (mul binary64 (float (nearest-cells seen ticks)) seen) in
+    cond (off seen ticks) (ofBits binary64 0) (mul binary64 x x)
