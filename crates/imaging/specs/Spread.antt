@@ -1,5 +1,5 @@
 -- How well a track fits: the root mean square and the standard errors, from the sums of crate track. Everything is
--- relative to nominal, and a variance is that of a mean, over the square of the mean.
+-- relative to nominal. `turn-variance` and `seen-variance` are squares of relative standard errors.
 use mathlib.Core.Path.{_≡_}
 use mathlib.Core.Bool.{cond}
 use lib.Ieee.{Float, binary64, add, sub, mul, div, lt, ofBits}
@@ -25,11 +25,11 @@ seen-variance squares count cells seen =
     let time = mul binary64 cells seen in
     div binary64 (div binary64 (mul binary64 squares count) (sub binary64 count one)) (mul binary64 time time)
 
--- speed = 1 / turn
+-- speed = 1 / turn, so that its relative error is that of turn
 abbrev pub speed-error : Float → Float → Float
 speed-error speed of-turn = mul binary64 speed (root of-turn)
 
--- cell = seen / turn
+-- cell = seen / turn, so that the squares of the two relative errors add up
 abbrev pub cell-error : Float → Float → Float → Float
 cell-error cell of-seen of-turn = mul binary64 cell (root (add binary64 of-seen of-turn))
 

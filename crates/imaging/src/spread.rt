@@ -48,12 +48,12 @@ fn place_spread(place: Place, times: &[u32], ticks: &[u32], median: u32) -> Spre
     let of_turn = turn_variance(track::index_squares(times, median, turn), place.turns, turn);
     Spread {
         rms: root_mean(squares, pulling),
-        speed: known(place.turns, speed_error(drive.speed, of_turn)),
-        cell: known(pulling, cell_error(drive.cell, of_seen, of_turn)),
+        speed: unless_one(place.turns, speed_error(drive.speed, of_turn)),
+        cell: unless_one(pulling, cell_error(drive.cell, of_seen, of_turn)),
     }
 }
 
-fn known(count: f64, error: f64) -> Error {
+fn unless_one(count: f64, error: f64) -> Error {
     if count > 1.0 {
         return Error::Known(error);
     }
@@ -66,6 +66,7 @@ fn root_mean(squares: f64, count: f64) -> f64
     root::sqrt(squares / count)
 }
 
+// The square of a relative standard error, and so is the next.
 fn turn_variance(squares: f64, count: f64, turn: f64) -> f64
     ensures { λ r. ⌜ r ≡ turn-variance squares count turn ⌝ }
 {
@@ -82,11 +83,10 @@ fn seen_variance(squares: f64, count: f64, cells: f64, seen: f64) -> f64
     squares * count / (count - 1.0) / (time * time)
 }
 
-// By the variance of turn.
-fn speed_error(speed: f64, turn: f64) -> f64
-    ensures { λ r. ⌜ r ≡ speed-error speed turn ⌝ }
+fn speed_error(speed: f64, variance: f64) -> f64
+    ensures { λ r. ⌜ r ≡ speed-error speed variance ⌝ }
 {
-    speed * root::sqrt(turn)
+    speed * root::sqrt(variance)
 }
 
 // By the variances of seen and turn.
