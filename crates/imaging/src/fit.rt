@@ -12,12 +12,12 @@ use crate::turn;
 use crate::turn::INDEX_NODES;
 use crate::turn::INTERVAL_NODES;
 use crate::turn::Index;
-use crate::turn::TURN;
 use crate::turn::Turned;
 use dual::Cleared;
 use dual::Read;
 use tape::MOST_EDGES;
 use tape::Tape;
+use track::TURN;
 ghost use Prim.Native.Nat.{_≤_};
 ghost use Rattle.imaging.specs.Flux.{Within};
 

@@ -15,10 +15,10 @@ use crate::model::Drive;
 use crate::out::Out;
 use crate::spread::Error;
 use crate::spread::Spread;
-use crate::turn::TURN;
 use crate::verdict::CELLS;
 use crate::verdict::Judged;
 use crate::verdict::Verdict;
+use track::TURN;
 ghost use Prim.Native.Nat.{_≤_};
 
 const RPM: f64 = 300.0;
@@ -60,7 +60,7 @@ fn fitted(out: Out, drive: Drive, spread: Spread) -> Out {
         .text(b" ns; ")
 }
 
-// A setting with its error, or what it has no error of.
+// A setting in its unit, with its error or why it has none.
 fn result(out: Out, x: f64, error: Error, nominal: f64, unit: &[u8], one: &[u8]) -> Out {
     match error {
         Error::Known(e) => out.with_error(x * nominal, e * nominal).text(unit),

@@ -1,6 +1,6 @@
-// How well a track fits at the settings that its line tells, relative to nominal: the root mean square of what the
-// intervals that pull are off, and the standard errors of speed and cell. IEEE's operations and the root of crate `root`
-// in one order, so that every machine writes the same digits.
+// How well a track fits at the settings that its line tells, relative to nominal: the root mean square of how far the
+// intervals that pull are from their cells, and the standard errors of speed and cell. IEEE's operations and the root of
+// crate `root` alone, in one order, so that every machine writes the same digits.
 use crate::fit;
 use crate::fit::Place;
 use crate::flux;

@@ -3,6 +3,9 @@ ghost use mathlib.Core.Path.{_≡_};
 ghost use Rattle.track.specs.Index.{median as Index·median, apart, below, at-most, middle, square-if-counted};
 ghost use Rattle.track.specs.Total.{float-total};
 
+// A turn at 300 rpm, in ticks of 25 ns.
+pub const TURN: f64 = 8_000_000.0;
+
 // The middle one of the times, of an even number the lower of the two; 0 where there is none.
 pub fn median(times: &[u32]) -> u32
     ensures { λ r. ⌜ r ≡ Index·median (now (times .entry)) ⌝ }
@@ -37,8 +40,6 @@ pub fn index_squares(times: &[u32], median: u32, turn: f64) -> f64
     sum
 }
 
-const TURN: f64 = 8_000_000.0;
-
 fn square_if_counted(time: u32, median: u32, turn: f64) -> f64
     ensures { λ r. ⌜ r ≡ square-if-counted median turn time ⌝ }
 {
@@ -49,7 +50,7 @@ fn square_if_counted(time: u32, median: u32, turn: f64) -> f64
     x * x
 }
 
-// In ticks of 25 ns, of which a turn at 300 rpm has 8,000,000.
+// 1/64 of a turn, in ticks.
 const APART: u32 = 125_000;
 
 // Fewer than half, rounded up, are below it, and so many at least are not above it.
