@@ -16,6 +16,7 @@ use lib.Ieee.Scale.{round-same}
 use Rattle.root.specs.Root.{Double, NearestRoot, Root}
 use Rattle.root.specs.Value.{root}
 use Rattle.root.proofs.Grid.{placed, low-enough, short}
+use Rattle.root.proofs.Cases.{no-value}
 use Rattle.root.proofs.Only.{zero-exp}
 use Rattle.root.proofs.Value.{ceiling, root-is}
 
@@ -52,16 +53,11 @@ module _ (m : ℕ) (e : ℤ) where
     turned : (p q r s : ℕ) → p * (q * 1) ≡ r * (1 * 2) * s → 1 * q * (p * 1) ≡ 1 * s * (r * 2)
     turned p q r s v = omega arith
 
-  -- x is not 0, so a fraction of twice its size is not 0
-  some-digit : (d : ℤ) → zero * up d * den ≡ num * down d → ⊥
-  some-digit d v =
-      lt-irrefl 0 (subst (λ (z : ℕ). 0 < z) (sym v ∙ ap (λ (z : ℕ). z * den) (zero-mul (up d)) ∙ zero-mul den) (mul-pos (mul-pos size-pos (lit< tt)) (down-pos d)))
-
   quotients : (y : Float) → HasValue y false num den → div binary64 half x ≡ div binary64 one y
   unfolding div
   quotients nan v = absurd v
   quotients (inf s) v = absurd v
-  quotients (fin s zero d) v = absurd (some-digit d (v .1))
+  quotients (fin s zero d) v = absurd (no-value d num den (mul-pos size-pos (lit< tt)) (v .1))
   quotients (fin true (suc n) d) v = absurd (true≢false (v .0))
   quotients (fin false (suc n) d) v =
       rw (ne-eqb (suc m) 0 (not-zero m), ne-eqb (suc n) 0 (not-zero n))
@@ -145,7 +141,7 @@ above-zero m e (suc n) v = zero-lt-suc n
 
 no-units : (e : ℤ) (a : ℕ) → zero * up e * 2 ^ 1074 ≡ a * down e → a ≡ 0
 no-units e zero v = refl
-no-units e (suc a) v = absurd (lt-irrefl 0 (subst (λ (z : ℕ). 0 < z) (sym v ∙ ap (λ (z : ℕ). z * 2 ^ 1074) (zero-mul (up e)) ∙ zero-mul (2 ^ 1074)) (mul-pos (zero-lt-suc a) (down-pos e))))
+no-units e (suc a) v = absurd (no-value e (suc a) (2 ^ 1074) (zero-lt-suc a) v)
 
 of-positive : (m : ℕ) (e : ℤ) (r : Float) → Double (fin false (suc m) e) → NearestRoot (fin false (suc m) e) r → Halved r
 of-positive m e nan d near = absurd (near .result)

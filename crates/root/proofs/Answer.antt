@@ -2,7 +2,7 @@
 use mathlib.Core.Path.{_≡_, refl, sym, ap, _∙_, subst}
 use mathlib.Core.Logic.{_⊎_, inl, inr}
 use Prim.Native.Nat.{ℕ, zero, suc, _+_, _-_, _*_, _/_, _%_, _^_, _≤_, _<_}
-use native.Mathlib.Nat.{le-trans, le-of-eq, le-of-lt, lt-of-lt-of-le, lt-of-not-le, mul-le-mul-left, mul-le-mul-right, lt-of-mul-lt-mul-right, mul-pos, mul-assoc, mul-left-comm}
+use native.Mathlib.Nat.{mul-one, eq-of-mul-eq-mul-right, le-trans, le-of-eq, le-of-lt, lt-of-lt-of-le, lt-of-not-le, mul-le-mul-left, mul-le-mul-right, lt-of-mul-lt-mul-right, mul-pos, mul-assoc, mul-left-comm}
 use native.Mathlib.Decide.{decLe}
 use native.Mathlib.Omega.{arith}
 use lib.Dec.{T}
@@ -11,7 +11,8 @@ use lib.Ieee.{Float, binary64, fits, ofBits}
 use lib.Ieee.Bits.{ofBits-fits}
 use Rattle.root.specs.Root.{Units, NearestRoot}
 use Rattle.root.specs.Inner.{Scales}
-use Rattle.root.proofs.Squares.{past, before-even, before-odd, odd-square, at-least, at-most}
+use Rattle.root.proofs.Squares.{over-at, under-low, under-high, odd-square, scaled}
+use Rattle.root.proofs.Halves.{root-small, root-large}
 use Rattle.root.proofs.Grid.{multiple}
 use Rattle.root.proofs.Patterns.{subnormal, normal}
 
@@ -55,11 +56,8 @@ scale-eq n m e k =
     ap (λ (z : ℕ). 2 ^ z) (halves e) ∙ pow-add 2 (e / 2 + e / 2) o ∙ ap (λ (z : ℕ). z * 2 ^ o) (pow-add 2 (e / 2) (e / 2)) ∙ ap (λ (z : ℕ). h * h * z) (bit-pow o (bit-lt e)) in
     let q : n * 2 ^ 52 ≡ m * (h * h * (o + 1)) = k ∙ ap (λ (z : ℕ). m * z) p in
     let r : 2 ^ (e / 2 + 485) ≡ h * 2 ^ 485 = pow-add 2 (e / 2) 485 in
-    first n (2 ^ 1074) (2 ^ 52) (2 ^ 1024) refl ∙ ap (λ (z : ℕ). z * 2 ^ 1024) q ∙ second m h (o + 1) (2 ^ 1024) (2 ^ 54) (2 ^ 485) refl ∙ ap (λ (z : ℕ). m * (o + 1) * 2 ^ 54 * (z * z)) (sym r)
+    scaled n (2 ^ 1074) (2 ^ 52) (2 ^ 1024) refl ∙ ap (λ (z : ℕ). z * 2 ^ 1024) q ∙ second m h (o + 1) (2 ^ 1024) (2 ^ 54) (2 ^ 485) refl ∙ ap (λ (z : ℕ). m * (o + 1) * 2 ^ 54 * (z * z)) (sym r)
   where
-    first : (n a b c : ℕ) → 4 * a ≡ b * c → 4 * (n * a) ≡ n * b * c
-    first n a b c f = mul-left-comm 4 n a ∙ ap (λ (z : ℕ). n * z) f ∙ sym (mul-assoc n b c)
-
     second : (m h g d b a : ℕ) → d ≡ b * (a * a) → m * (h * h * g) * d ≡ m * g * b * (h * a * (h * a))
     second m h g d b a f = ap (λ (z : ℕ). m * (h * h * g) * z) f ∙ simp (mul-assoc, mul-left-comm)
 
@@ -120,15 +118,15 @@ answer b m e s m-low m-high e-high sc s-low s-high =
     let two = once-or-twice m (e % 2) (bit-lt e) in
     let M-low : 2 ^ 52 ≤ M = le-trans m-low (two .0) in
     let M-high : M ≤ 2 ^ 54 - 2 = le-trans (two .1) (omega arith) in
-    let s-big : 2 ^ 53 ≤ s = at-least s M M-low s-high in
-    let s-small : s ≤ 2 ^ 54 - 2 = at-most s M M-high s-low in
+    let s-big : 2 ^ 53 ≤ s = root-large s (2 ^ 53) (M * 2 ^ 54) (omega arith) s-high in
+    let s-small : s < 2 ^ 54 - 1 = root-small s (2 ^ 54 - 1) (M * 2 ^ 54) s-low (omega arith) in
     let q-low : 2 ^ 52 ≤ q = omega arith in
     let q-high : q < 2 ^ 53 = omega arith in
     let r-lt : r < 0x7ff0_0000_0000_0000 = omega arith in
     let field : r / 0x10_0000_0000_0000 ≡ suc k = omega arith in
     let digits : 0x10_0000_0000_0000 + r % 0x10_0000_0000_0000 ≡ q = omega arith in
     let c = scale-eq (sc .0) m e (sc .2) in
-    let p = pow-pos k in
+    let one : 2 ^ k ≡ 2 ^ k * 1 = sym (mul-one (2 ^ k)) in
     let p2 = mul-pos (pow-pos k) (pow-pos k) in (
       record {
         n = sc .0;
@@ -136,14 +134,16 @@ answer b m e s m-low m-high e-high sc s-low s-high =
         argument = sc .1;
         result = subst (λ (z : ℕ). Units (ofBits binary64 r) (z * 2 ^ k)) digits (normal r k r-lt field);
         double = ofBits-fits binary64 r;
-        over = λ y y-units t u l.
-            subst (λ (z : ℕ). z < (q * 2 ^ k + y-units) * (q * 2 ^ k + y-units)) (sym c)
-            (past s (M * 2 ^ 54) (2 ^ k) q y-units p s-high refl (next-up k q q-low y y-units t u l));
-        under = λ y y-units t u l.
-            subst (λ (z : ℕ). (q * 2 ^ k + y-units) * (q * 2 ^ k + y-units) < z) (sym c)
+        over = λ y b t u l.
+            subst (λ (z : ℕ). z < (q * 2 ^ k + b) * (q * 2 ^ k + b)) (sym c)
+            (over-at (M * 2 ^ 54) (2 ^ k * 2 ^ k) (2 ^ k) 1 q s b (2 ^ k) refl one p2 s-high (omega arith) (next-up k q q-low y b t u l));
+        under = λ y b t u l.
+            subst (λ (z : ℕ). (q * 2 ^ k + b) * (q * 2 ^ k + b) < z) (sym c)
             (elim (parity s) [
-              | inl even ↦ before-even s (M * 2 ^ 54) (2 ^ k) q y-units p s-low (omega arith) l
-              | inr odd ↦ before-odd s (M * 2 ^ 54) (2 ^ k) q y-units p2 (odd-square s M odd s-low) (omega arith) (next-down k q (omega arith) y y-units t u l)
+              | inl even ↦ under-low (M * 2 ^ 54) (2 ^ k * 2 ^ k) (2 ^ k) 1 q s b (2 ^ k) refl one s-low (omega arith) l
+              | inr odd ↦
+                  under-high (M * 2 ^ 54) (2 ^ k * 2 ^ k) (2 ^ k) 1 q s b (2 ^ k) s refl one s-low (omega arith) (omega arith) (next-down k q (omega arith) y b t u l)
+                  (λ e. odd-square s M odd (eq-of-mul-eq-mul-right (2 ^ k * 2 ^ k) p2 (s * s) (M * 2 ^ 54) e))
             ]);
       },
       r-lt,

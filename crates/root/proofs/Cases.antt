@@ -69,7 +69,7 @@ pub between : (b : ℕ) → own b ≡ false → b ≤ 0x7ff0_0000_0000_0000 → 
 between b e h = (pos-of-ne-zero (not-own b e .0), lt-of-le-ne h (not-own b e .2))
 
 -- ---- the negatives
-no-value : (e : ℤ) (a c : ℕ) → 0 < a → zero * up e * c ≡ a * down e → ⊥
+pub no-value : (e : ℤ) (a c : ℕ) → 0 < a → zero * up e * c ≡ a * down e → ⊥
 no-value e a c h v = lt-irrefl 0 (subst (λ (z : ℕ). 0 < z) (sym v ∙ ap (λ (z : ℕ). z * c) (zero-mul (up e)) ∙ zero-mul c) (mul-pos h (down-pos e)))
 
 below-zero : (x : Float) (a c : ℕ) → HasValue x true a c → 0 < a → Root x nan

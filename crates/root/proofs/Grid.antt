@@ -19,43 +19,43 @@ one-low : (e : ℤ) → up e * down e ≡ 1 → down e ≤ 2 ^ 1074
 one-low (pos k) h = pow-pos 1074
 one-low (negsuc k) h = le-trans (le-of-eq (sym (one-mul (2 ^ suc k)) ∙ h)) (pow-pos 1074)
 
+-- of a number that is not 0
+record Fitting (m : ℕ) (e : ℤ) : Type 0 where
+  is-odd : m % 2 ≡ 1
+  short : m < 2 ^ 53
+  low : down e ≤ 2 ^ 1074
+  under-top : m * up e < 2 ^ 1024 * down e
+
+fitting : (s : Bool) (m : ℕ) (e : ℤ) → T (fits binary64 (fin s (suc m) e)) → Fitting (suc m) e
+unfolding fits
+fitting s m e t =
+    let a = eqb (suc m % 2) 1 in
+    let b = ltb (suc m) (2 ^ 53) in
+    let c = leb (down e) (2 ^ 1074) in
+    let d = ltb (suc m * up e) (2 ^ 1024 * down e) in
+    let abc = and-l (a && b && c) d t in
+    let ab = and-l (a && b) c abc in
+    record {
+      is-odd = eqb→eq (suc m % 2) 1 (and-l a b ab);
+      short = ltb→lt (suc m) (2 ^ 53) (and-r a b ab);
+      low = leb→le (down e) (2 ^ 1074) (and-r (a && b) c abc);
+      under-top = ltb→lt (suc m * up e) (2 ^ 1024 * down e) (and-r (a && b && c) d t);
+    }
+
 pub low-enough : (s : Bool) (m : ℕ) (e : ℤ) → T (fits binary64 (fin s m e)) → down e ≤ 2 ^ 1074
 unfolding fits
 low-enough s zero e t = one-low e (eqb→eq (up e * down e) 1 t)
-low-enough s (suc m) e t =
-    let a = eqb (suc m % 2) 1 in
-    let b = ltb (suc m) (2 ^ 53) in
-    let c = leb (down e) (2 ^ 1074) in
-    let d = ltb (suc m * up e) (2 ^ 1024 * down e) in
-    leb→le (down e) (2 ^ 1074) (and-r (a && b) c (and-l (a && b && c) d t))
+low-enough s (suc m) e t = fitting s m e t .low
 
 pub short : (s : Bool) (m : ℕ) (e : ℤ) → T (fits binary64 (fin s m e)) → m < 2 ^ 53
-unfolding fits
 short s zero e t = pow-pos 53
-short s (suc m) e t =
-    let a = eqb (suc m % 2) 1 in
-    let b = ltb (suc m) (2 ^ 53) in
-    let c = leb (down e) (2 ^ 1074) in
-    let d = ltb (suc m * up e) (2 ^ 1024 * down e) in
-    ltb→lt (suc m) (2 ^ 53) (and-r a b (and-l (a && b) c (and-l (a && b && c) d t)))
+short s (suc m) e t = fitting s m e t .short
 
 pub is-odd : (s : Bool) (m : ℕ) (e : ℤ) → T (fits binary64 (fin s (suc m) e)) → suc m % 2 ≡ 1
-unfolding fits
-is-odd s m e t =
-    let a = eqb (suc m % 2) 1 in
-    let b = ltb (suc m) (2 ^ 53) in
-    let c = leb (down e) (2 ^ 1074) in
-    let d = ltb (suc m * up e) (2 ^ 1024 * down e) in
-    eqb→eq (suc m % 2) 1 (and-l a b (and-l (a && b) c (and-l (a && b && c) d t)))
+is-odd s m e t = fitting s m e t .is-odd
 
 pub under-top : (s : Bool) (m : ℕ) (e : ℤ) → T (fits binary64 (fin s (suc m) e)) → suc m * up e < 2 ^ 1024 * down e
-unfolding fits
-under-top s m e t =
-    let a = eqb (suc m % 2) 1 in
-    let b = ltb (suc m) (2 ^ 53) in
-    let c = leb (down e) (2 ^ 1074) in
-    let d = ltb (suc m * up e) (2 ^ 1024 * down e) in
-    ltb→lt (suc m * up e) (2 ^ 1024 * down e) (and-r (a && b && c) d t)
+under-top s m e t = fitting s m e t .under-top
 
 -- ---- m * 2 ^ e, in units of 2 ^ -l
 pow-le-back : (a l : ℕ) → 2 ^ a ≤ 2 ^ l → a ≤ l

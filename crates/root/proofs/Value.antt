@@ -2,7 +2,7 @@
 use mathlib.Core.Path.{_≡_, refl, sym, ap, _∙_, subst}
 use mathlib.Core.Logic.{inl, inr}
 use Prim.Native.Nat.{ℕ, zero, suc, _+_, _-_, _*_, _/_, _%_, _^_, _≤_, _<_, zero-le, compare, Ordering, Ordering·lt, Ordering·eq, Ordering·gt}
-use native.Mathlib.Nat.{le-trans, le-of-eq, lt-of-lt-of-le, lt-of-le-of-lt, lt-of-not-le, not-le-of-lt, eq-or-lt-of-le, zero-lt-suc, mul-pos, mul-assoc, mul-comm, mul-left-comm, mul-mul-mul-comm, mul-right-comm, mul-le-mul, mul-le-mul-right, mul-lt-mul-of-pos-right, le-of-mul-le-mul-right, lt-of-mul-lt-mul-right, mul-div-cancel, div-lt-iff-lt-mul, le-div-iff-mul-le, div-add-mod', mod-lt, pow-suc, pow-le-pow-left}
+use native.Mathlib.Nat.{le-trans, le-of-eq, lt-of-lt-of-le, lt-of-le-of-lt, lt-of-not-le, not-le-of-lt, eq-or-lt-of-le, zero-lt-suc, mul-pos, mul-assoc, mul-comm, mul-left-comm, mul-right-comm, mul-le-mul, mul-le-mul-right, mul-lt-mul-of-pos-right, le-of-mul-le-mul-right, lt-of-mul-lt-mul-right, mul-div-cancel, div-lt-iff-lt-mul, le-div-iff-mul-le, div-add-mod', mod-lt, pow-suc, pow-le-pow-left}
 use native.Mathlib.Omega.{arith}
 use mathlib.Core.Bool.{Bool, true, false, not, cond}
 use lib.Dec.{T, leb, isLe, isEq, eqb, leb→le, nleb→lt, eqb→eq, eqb-refl, lit≤}
@@ -16,7 +16,7 @@ use lib.Ieee.Nearest.{closest, closest-same, nearest-ge}
 use lib.Ieee.Scale.{grid, round-val}
 use Rattle.root.specs.Root.{Units, NearestRoot, Root}
 use Rattle.root.specs.Value.{whole-root, rounded, root}
-use Rattle.root.proofs.Squares.{square-lt}
+use Rattle.root.proofs.Squares.{over-at, under-low, under-high, odd-squared, scaled}
 use Rattle.root.proofs.Halves.{root-small, root-large}
 use Rattle.root.proofs.Grid.{odd-pow, has-units, placed, low-enough, is-odd, short, under-top}
 use Rattle.root.proofs.Answer.{next-up, next-down}
@@ -121,46 +121,7 @@ grid-is t i e =
     same : (a b c d g : ℕ) → a * b ≡ c * d → a * (b * g) ≡ c * (d * g)
     same a b c d g f = sym (mul-assoc a b g) ∙ ap (λ (z : ℕ). z * g) f ∙ mul-assoc c d g
 
--- ---- the squares. c is a * a, P is a * g, and the argument is v * c in units squared
-over-at : (v c a g q s b P : ℕ) → a * a ≡ c → P ≡ a * g → 0 < c → v < (s + 1) * (s + 1) → s + 1 ≤ (2 * q + 1) * g → (q + 1) * P ≤ b → v * c < (q * P + b) * (q * P + b)
-over-at v c a g q s b P e f h l k m =
-    let z = (2 * q + 1) * g in
-    let w : (2 * q + 1) * P ≤ q * P + b = omega arith in
-    let y : z * a ≤ q * P + b = le-trans (le-of-eq (mul-assoc (2 * q + 1) g a ∙ ap (λ (x : ℕ). (2 * q + 1) * x) (mul-comm g a ∙ sym f))) w in
-    lt-of-lt-of-le (mul-lt-mul-of-pos-right (lt-of-lt-of-le l (mul-le-mul k k)) h)
-    (le-trans (le-of-eq (ap (λ (x : ℕ). z * z * x) (sym e) ∙ mul-mul-mul-comm z z a a)) (mul-le-mul y y))
-
--- the root is not below q
-under-low : (v c a g q s b P : ℕ) → a * a ≡ c → P ≡ a * g → s * s ≤ v → 2 * q * g ≤ s → b < q * P → (q * P + b) * (q * P + b) < v * c
-under-low v c a g q s b P e f l k m =
-    let w : q * P + b < 2 * q * P = omega arith in
-    let y : 2 * q * P ≤ s * a = le-trans (le-of-eq (ap (λ (x : ℕ). 2 * q * x) (f ∙ mul-comm a g) ∙ sym (mul-assoc (2 * q) g a))) (mul-le-mul-right a k) in
-    lt-of-lt-of-le (square-lt (q * P + b) (s * a) (lt-of-lt-of-le w y))
-    (le-trans (le-of-eq (mul-mul-mul-comm s a s a ∙ ap (λ (x : ℕ). s * s * x) e)) (mul-le-mul-right c l))
-
--- y is 2 q - 1
-under-high : (v c a g q s b P y : ℕ) → a * a ≡ c → P ≡ a * g → s * s ≤ v → y + 1 ≡ 2 * q → 2 * q * g ≤ s + g → b + P ≤ q * P → (y * y * (P * P) ≡ v * c → ⊥) → (q * P + b) * (q * P + b) < v * c
-under-high v c a g q s b P y e f l d k m tie =
-    let x : (y + 1) * P ≡ 2 * q * P = ap (λ (z : ℕ). z * P) d in
-    let w : q * P + b ≤ y * P = omega arith in
-    let x' : (y + 1) * g ≡ 2 * q * g = ap (λ (z : ℕ). z * g) d in
-    let r : y * g ≤ s = omega arith in
-    let u : y * P ≤ s * a = le-trans (le-of-eq (ap (λ (z : ℕ). y * z) (f ∙ mul-comm a g) ∙ sym (mul-assoc y g a))) (mul-le-mul-right a r) in
-    let top : y * y * (P * P) ≤ v * c =
-    le-trans (le-of-eq (mul-mul-mul-comm y y P P)) (le-trans (mul-le-mul u u) (le-trans (le-of-eq (mul-mul-mul-comm s a s a ∙ ap (λ (z : ℕ). s * s * z) e)) (mul-le-mul-right c l))) in
-    lt-of-le-of-lt (mul-le-mul w w) (lt-of-le-of-lt (le-of-eq (mul-mul-mul-comm y P y P)) (lt-of-le-ne top tie))
-
 -- ---- no tie: an odd square of more than 53 digits is no m of at most 53 with zeros after it
-odd-squared : (y : ℕ) → y % 2 ≡ 1 → y * y % 2 ≡ 1
-odd-squared y o =
-    let u = y / 2 in
-    let d : y ≡ 2 * u + 1 = omega arith in
-    let e : y * y ≡ 2 * (2 * (u * u) + 2 * u) + 1 = ap (λ (z : ℕ). z * z) d ∙ expand u in
-    omega arith
-  where
-    expand : (u : ℕ) → (2 * u + 1) * (2 * u + 1) ≡ 2 * (2 * (u * u) + 2 * u) + 1
-    expand u = omega arith
-
 no-tie : (y m j k : ℕ) → y % 2 ≡ 1 → m % 2 ≡ 1 → m < 2 ^ 53 → 2 ^ 53 ≤ y → y * y * (2 ^ k * 2 ^ k) ≡ 4 * (m * 2 ^ j * 2 ^ 1074) → ⊥
 no-tie y m j k o p h l e =
     let r = odd-pow (y * y) m (k + k) (j + 1076) (odd-squared y o) p
@@ -172,9 +133,6 @@ no-tie y m j k o p h l e =
     clash x m e h a = omega arith
 
 -- ---- the whole
-scaled : (n a b c : ℕ) → 4 * a ≡ b * c → 4 * (n * a) ≡ n * b * c
-scaled n a b c f = mul-left-comm 4 n a ∙ ap (λ (z : ℕ). n * z) f ∙ sym (mul-assoc n b c)
-
 rounded-is : (n : ℕ) → rounded n ≡ round binary64 false (2 * whole-root (size (n * 2 ^ 110)) (n * 2 ^ 110) + 1) (2 ^ 593)
 unfolding rounded
 rounded-is n = refl
