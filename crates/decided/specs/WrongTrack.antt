@@ -70,7 +70,8 @@ pulling-cells-tried = a-number (total (cells.cells-if-pulling one) ticks) 16 ∷
 abbrev pub fraction : ℕ → ℕ → Float
 fraction m n = div binary64 (cells.float m) (cells.float n)
 
--- pulling_squares, of a sixteenth too much, an eighth too little and one that is off: with the one that is off; each over its cells; their mean
+-- pulling_squares, of a sixteenth too much, an eighth too little and one that is off: with the one that is off; each over
+-- its cells; their mean
 abbrev pub pulling-squares-tried : List Tried
 pulling-squares-tried =
     let right = float-total (cells.square-if-pulling one) (165 ∷ 310 ∷ 341 ∷ []) in
@@ -87,7 +88,8 @@ median-tried =
 abbrev pub is-apart-tried : List Tried
 is-apart-tried = a-bool (index.apart 8125000 8000000) true ∷ a-bool (index.apart 7874999 8000000) false ∷ []
 
--- index_squares, of 1/256 of a turn too much, as much too little and one that is apart: with the one that is apart; the square of their sum; their mean
+-- index_squares, of 1/256 of a turn too much, as much too little and one that is apart: with the one that is apart; the
+-- square of their sum; their mean
 abbrev pub index-squares-tried : List Tried
 index-squares-tried =
     let right = float-total (index.square-if-counted 8000000 one) (8031250 ∷ 7968750 ∷ 8700000 ∷ []) in

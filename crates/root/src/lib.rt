@@ -105,8 +105,8 @@ fn whole_root(m: u64) -> u64
 // 2^27: the root of 2^54.
 const HALF_PLACE: u64 = 0x800_0000;
 
-// The whole part of the root of m. Two steps leave a guess that is at most one too large; that is reckoned and not proved,
-// so a loop takes off what is too much.
+// The whole part of the root of m. Two steps leave a guess that is at most one too large; that is reckoned and not
+// proved, so a loop takes off what is too much.
 fn half_root(m: u64) -> u64
     requires { ⌜ (2 ^ 52 ≤ m) × (m < 2 ^ 54) ⌝ }
     ensures { λ r. ⌜ (r * r ≤ m) × (m < (r + 1) * (r + 1)) ⌝ }
