@@ -32,6 +32,12 @@ impl Temper {
         }
     }
 
+    /// Whether this is a root of a negative number that is not to be recorded. Its NaN flows on, so that one in 40 is
+    /// enough, and none where no NaN is drawn.
+    pub fn leaves_out(&self, random: &mut Random, operation: &str, x: f64) -> bool {
+        operation == "sqrt" && x < 0.0 && !(self.infinite && random.once_in(40))
+    }
+
     fn special(&self, random: &mut Random) -> f64 {
         let special = random.special();
         let fits = special.is_finite() || self.infinite;

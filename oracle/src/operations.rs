@@ -23,7 +23,7 @@ pub struct Form {
 pub struct Kind {
     pub name: &'static str,
     pub links: bool,
-    /// Whether the port has no such operation, and is supplied its value and partials.
+    /// Whether the port is supplied its value and partials.
     pub supplied: bool,
     /// The value and the partials at two numbers.
     pub rule: fn(f64, f64) -> [f64; 3],
@@ -47,13 +47,13 @@ fn put_again(mut x: Operand) -> Dual<f64> {
     x
 }
 
-/// An operation of one operand, a `Dual` or a `Const`, that the port is supplied.
+/// An operation of one operand, a `Dual` or a `Const`.
 macro_rules! one {
-    ($operation:path, $rule:ident) => {
+    ($name:literal, $operation:path, $rule:ident) => {
         Kind {
-            name: "supplied_one",
+            name: $name,
             links: true,
-            supplied: true,
+            supplied: false,
             rule: |l, _| {
                 let value = $rule::eval(l);
                 [value, $rule::deriv(l, value), 0.0]
@@ -102,9 +102,8 @@ macro_rules! two {
     };
 }
 
-/// Every operation that the port has, in the order of its number, by the Rust's own operators.
-#[must_use]
-pub fn kinds() -> Vec<Kind> {
+/// Operations 0 to 7, in the order of their numbers, by the Rust's own operators.
+fn first_kinds() -> Vec<Kind> {
     vec![
         Kind {
             name: "leaf",
@@ -147,31 +146,47 @@ pub fn kinds() -> Vec<Kind> {
     ]
 }
 
-/// The operations that document 01 leaves to the host, as the port takes them: supplied, of one operand or of two.
+/// Every operation that the port works out itself, in the order of its number.
 #[must_use]
-pub fn supplied_kinds() -> Vec<Kind> {
-    let power = Kind {
-        supplied: true,
-        ..two!("supplied_two", pow, PowOp)
-    };
-    vec![
-        one!(exp, ExpOp),
-        one!(log, LogOp),
-        one!(sqrt, SqrtOp),
-        one!(sin, SinOp),
-        one!(cos, CosOp),
-        one!(abs, AbsOp),
-        one!(fabs, FabsOp),
-        power,
-    ]
+pub fn kinds() -> Vec<Kind> {
+    let mut all = first_kinds();
+    all.push(one!("sqrt", sqrt, SqrtOp));
+    all
 }
 
-/// The operations of a list: the port's own, or these and those that it is supplied.
+/// An operation as the port takes it that is left to the host.
+fn left_to_the_host(kind: Kind) -> Kind {
+    let names = ["supplied_one", "supplied_two"];
+    Kind {
+        name: names[kind.operands() - 1],
+        supplied: true,
+        ..kind
+    }
+}
+
+/// The functions that a host may supply, of one operand or of two. A host may take a root of its own.
+#[must_use]
+pub fn supplied_kinds() -> Vec<Kind> {
+    let functions = vec![
+        one!("exp", exp, ExpOp),
+        one!("ln", log, LogOp),
+        one!("sqrt", sqrt, SqrtOp),
+        one!("sin", sin, SinOp),
+        one!("cos", cos, CosOp),
+        one!("abs", abs, AbsOp),
+        one!("fabs", fabs, FabsOp),
+        two!("pow", pow, PowOp),
+    ];
+    functions.into_iter().map(left_to_the_host).collect()
+}
+
+/// The operations of a list: the port's own, or operations 0 to 7 and those that the host supplies.
 #[must_use]
 pub fn kinds_of(supplied: bool) -> Vec<Kind> {
-    let mut all = kinds();
-    if supplied {
-        all.extend(supplied_kinds());
+    if !supplied {
+        return kinds();
     }
+    let mut all = first_kinds();
+    all.extend(supplied_kinds());
     all
 }

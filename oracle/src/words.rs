@@ -1,5 +1,7 @@
 //! Numbers as words: the bits of their innermost floats.
 
+use std::hint::black_box;
+
 use crate::ad::forward::Fwd;
 use crate::ad::scalar::{InnerScalar, Scalar};
 
@@ -27,8 +29,10 @@ pub const SPECIAL: [f64; 17] = [
     1e-300,
 ];
 
-/// The bits of a float, any NaN as [`NAN`].
+/// The bits of a float, any NaN as [`NAN`]. To the compiler the NaN of an operation may have any bits: behind a root that
+/// it sees it leaves the test out, so it sees none.
 pub fn bits(x: f64) -> u64 {
+    let x = black_box(x);
     if x.is_nan() {
         NAN
     } else {

@@ -3,6 +3,7 @@
 use crate::report;
 use dual::passes::propagate_to_mark;
 use expr::ADD;
+use expr::SQRT;
 use expr::Supplied;
 use expr::recording::record;
 use listing::bits_of;
@@ -17,10 +18,11 @@ const N: usize = 3;
 const SLOTS: usize = MOST_EDGES * N;
 
 // The first number that there is no operation for.
-const UNKNOWN: u8 = 10;
+const UNKNOWN: u8 = 11;
 
 pub(crate) fn run() {
-    recording(b"operation 10", two_nodes(), UNKNOWN);
+    recording(b"operation 10", two_nodes(), SQRT);
+    recording(b"operation 11", two_nodes(), UNKNOWN);
     recording(b"operation 255", two_nodes(), u8::MAX);
     recording(b"last serial but one", with_next(u64::MAX - 1, true), ADD);
     recording(b"last serial", with_next(u64::MAX, true), ADD);

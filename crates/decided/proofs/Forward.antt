@@ -26,6 +26,7 @@ order1 = record {
   div-f64 = record { same = through (one-to-one .0) };
   sub-from = record { same = through (one-to-one .0) };
   div-into = record { same = through (one-to-one .0) };
+  sqrt = record { same = through (one-to-one .0) };
   rem = record { same = through (one-to-one .0) };
   rem-f64 = record { same = through (one-to-one .0) };
   abs = record { same = through (one-to-one .0) };
@@ -67,6 +68,7 @@ order2 = record {
   div-f64 = record { same = through (one-to-one .1) };
   sub-from = record { same = through (one-to-one .1) };
   div-into = record { same = through (one-to-one .1) };
+  sqrt = record { same = through (one-to-one .1) };
   rem = record { same = through (one-to-one .1) };
   rem-f64 = record { same = through (one-to-one .1) };
   abs = record { same = through (one-to-one .1) };
@@ -109,6 +111,7 @@ order3 = record {
   div-f64 = record { same = through (one-to-one .2) };
   sub-from = record { same = through (one-to-one .2) };
   div-into = record { same = through (one-to-one .2) };
+  sqrt = record { same = through (one-to-one .2) };
   rem = record { same = through (one-to-one .2) };
   rem-f64 = record { same = through (one-to-one .2) };
   abs = record { same = through (one-to-one .2) };
@@ -152,6 +155,7 @@ order4 = record {
   div-f64 = record { same = through (one-to-one .3) };
   sub-from = record { same = through (one-to-one .3) };
   div-into = record { same = through (one-to-one .3) };
+  sqrt = record { same = through (one-to-one .3) };
   rem = record { same = through (one-to-one .3) };
   rem-f64 = record { same = through (one-to-one .3) };
   abs = record { same = through (one-to-one .3) };

@@ -1,4 +1,5 @@
 pub mod Rules
+pub mod Root
 pub mod Forward
 pub mod Tape
 pub mod Expr

@@ -1,4 +1,5 @@
 -- The statements of specs/, each with its proof.
+use Rattle.decided.specs.Root.{Root}
 use Rattle.decided.specs.Forward.{Compared, Order1, Order2, Order3, Order4}
 use Rattle.decided.specs.Tape.{Tape}
 use Rattle.decided.specs.Expr.{Expr}
@@ -11,6 +12,7 @@ use Rattle.decided.specs.WrongNumbers.{NumbersTried}
 use Rattle.decided.specs.WrongCalls.{CallsTried}
 use Rattle.decided.specs.WrongText.{TextTried}
 use Rattle.decided.specs.WrongTrack.{TrackTried}
+use Rattle.decided.proofs.Root as of-root
 use Rattle.decided.proofs.Forward as forward
 use Rattle.decided.proofs.Tape as of-tape
 use Rattle.decided.proofs.Expr as of-expr
@@ -20,6 +22,9 @@ use Rattle.decided.proofs.Text as of-text
 use Rattle.decided.proofs.Track as of-track
 use Rattle.decided.proofs.Open as open-ones
 use Rattle.decided.proofs.Wrong as wrong
+
+root : Root
+root = of-root.root
 
 compared : Compared
 compared = forward.compared

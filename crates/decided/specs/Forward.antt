@@ -27,6 +27,7 @@ pub record Order1 : Type 0 where
   pub div-f64 : Decided fwd1.div_f64.ended fwd1.div_f64.Reads.Learnt
   pub sub-from : Decided fwd1.sub_from.ended fwd1.sub_from.Reads.Learnt
   pub div-into : Decided fwd1.div_into.ended fwd1.div_into.Reads.Learnt
+  pub sqrt : Decided fwd1.sqrt.ended fwd1.sqrt.Reads.Learnt
   pub rem : Decided fwd1.rem.ended fwd1.rem.Reads.Learnt
   pub rem-f64 : Decided fwd1.rem_f64.ended fwd1.rem_f64.Reads.Learnt
   pub abs : Decided fwd1.abs.ended fwd1.abs.Reads.Learnt
@@ -66,6 +67,7 @@ pub record Order2 : Type 0 where
   pub div-f64 : Decided fwd2.div_f64.ended fwd2.div_f64.Reads.Learnt
   pub sub-from : Decided fwd2.sub_from.ended fwd2.sub_from.Reads.Learnt
   pub div-into : Decided fwd2.div_into.ended fwd2.div_into.Reads.Learnt
+  pub sqrt : Decided fwd2.sqrt.ended fwd2.sqrt.Reads.Learnt
   pub rem : Decided fwd2.rem.ended fwd2.rem.Reads.Learnt
   pub rem-f64 : Decided fwd2.rem_f64.ended fwd2.rem_f64.Reads.Learnt
   pub abs : Decided fwd2.abs.ended fwd2.abs.Reads.Learnt
@@ -106,6 +108,7 @@ pub record Order3 : Type 0 where
   pub div-f64 : Decided fwd3.div_f64.ended fwd3.div_f64.Reads.Learnt
   pub sub-from : Decided fwd3.sub_from.ended fwd3.sub_from.Reads.Learnt
   pub div-into : Decided fwd3.div_into.ended fwd3.div_into.Reads.Learnt
+  pub sqrt : Decided fwd3.sqrt.ended fwd3.sqrt.Reads.Learnt
   pub rem : Decided fwd3.rem.ended fwd3.rem.Reads.Learnt
   pub rem-f64 : Decided fwd3.rem_f64.ended fwd3.rem_f64.Reads.Learnt
   pub abs : Decided fwd3.abs.ended fwd3.abs.Reads.Learnt
@@ -147,6 +150,7 @@ pub record Order4 : Type 0 where
   pub div-f64 : Decided fwd4.div_f64.ended fwd4.div_f64.Reads.Learnt
   pub sub-from : Decided fwd4.sub_from.ended fwd4.sub_from.Reads.Learnt
   pub div-into : Decided fwd4.div_into.ended fwd4.div_into.Reads.Learnt
+  pub sqrt : Decided fwd4.sqrt.ended fwd4.sqrt.Reads.Learnt
   pub rem : Decided fwd4.rem.ended fwd4.rem.Reads.Learnt
   pub rem-f64 : Decided fwd4.rem_f64.ended fwd4.rem_f64.Reads.Learnt
   pub abs : Decided fwd4.abs.ended fwd4.abs.Reads.Learnt

@@ -4,6 +4,7 @@
 -- `Tried` says what it is to try a wrong answer on a promise; `WrongNumbers`, `WrongCalls`, `WrongText` and `WrongTrack`
 -- have two or more for each function.
 pub mod Decided
+pub mod Root
 pub mod Forward
 pub mod Tape
 pub mod Expr

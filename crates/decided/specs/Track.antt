@@ -9,7 +9,9 @@ pub record Track : Type 0 where
   pub count-cells : Decided track.count_cells.ended track.count_cells.Reads.Learnt
   pub count-off : Decided track.count_off.ended track.count_off.Reads.Learnt
   pub pulling-cells : Decided track.pulling_cells.ended track.pulling_cells.Reads.Learnt
+  pub pulling-squares : Decided track.pulling_squares.ended track.pulling_squares.Reads.Learnt
   pub median : Decided track.median.ended track.median.Reads.Learnt
   pub is-apart : Decided track.is_apart.ended track.is_apart.Reads.Learnt
+  pub index-squares : Decided track.index_squares.ended track.index_squares.Reads.Learnt
   pub part-count : Decided track.part_count.ended track.part_count.Reads.Learnt
   pub part-at : Decided track.part_at.ended track.part_at.Reads.Learnt

@@ -11,7 +11,7 @@ use lib.ListN.{set, take, replicate}
 use Rattle.tape.specs.Numbers.{floats}
 use Rattle.tape.specs.Machine.{Arrays, Machine, arrays, machine, new-tape, state}
 use Rattle.tape.specs.Handles.{Operand, plain, node, looked-up, usable-as}
-use Rattle.tape.specs.Operations.{UNKNOWN, ADD, SUBTRACT, MULTIPLY, DIVIDE, MAX, MIN, NEGATE, SUPPLIED-ONE, SUPPLIED-TWO}
+use Rattle.tape.specs.Operations.{UNKNOWN, ADD, SUBTRACT, MULTIPLY, DIVIDE, MAX, MIN, NEGATE, SUPPLIED-ONE, SUPPLIED-TWO, SQRT}
 use Rattle.tape.specs.Walk.{Edge}
 use Rattle.tape.specs.Listing.{listing}
 use Rattle.tape.specs.Answers.{Answer, number, refused, done, read-value, recorded, counted}
@@ -232,7 +232,7 @@ admit-tried = an-admission (admitted (let-in caller.Recording (kept 5 0 true))) 
 -- ---- wrong answers: expr
 
 -- record: the new node's adjoint as its value; a right handle that is not live refused at NEGATE, which does not use
--- it; operation 10 recorded; a node recorded past the capacity, or with the last serial
+-- it; an operation past the table recorded; a node recorded past the capacity, or with the last serial
 abbrev pub record-tried : List Tried
 record-tried =
     a-step (step (binary NEGATE x0 unused) two) (with-adjoint (minus (float 3)) (recording (minus (float 3)) (to 0 (minus one) ∷ [])))
@@ -301,6 +301,16 @@ abbrev pub supplied-two-tried : List Tried
 supplied-two-tried =
     a-step (step (operate SUPPLIED-TWO x0 x1 (given (float 9) (float 8) (float 4))) two) (recording (float 9) (to 1 (float 4) ∷ to 0 (float 8) ∷ []))
     ∷ a-step (step (operate SUPPLIED-TWO x0 x1 (given (float 9) (float 8) (float 4))) two) (recording (float 5) (to 0 (float 8) ∷ to 1 (float 4) ∷ [])) ∷ []
+
+-- record SQRT: the partial as 0.5 / x; as 1 / s; the operation refused, as it was before the table had it; a right
+-- handle that is not live refused
+abbrev pub sqrt-tried : List Tried
+sqrt-tried =
+    let s = floats .root (float 3) in
+    a-step (step (binary SQRT x0 unused) two) (recording s (to 0 (over 1 6) ∷ []))
+    ∷ a-step (step (binary SQRT x0 unused) two) (recording s (to 0 (div binary64 one s) ∷ []))
+    ∷ a-step (step (binary SQRT x0 unused) two) (refused UnknownOperation, two)
+    ∷ a-step (step (binary SQRT x0 stale) two) (refused Refusal·NotLive, two) ∷ []
 
 -- ---- wrong answers: dual
 
@@ -415,7 +425,7 @@ calls-tried =
     ++ set-mark-tried ++ reset-mark-tried ++ rewind-to-mark-tried ++ rewind-to-init-tried ++ admit-tried
     ++ record-tried ++ new-leaf-tried ++ put-on-tape-tried ++ add-tried ++ subtract-tried
     ++ multiply-tried ++ divide-tried ++ max-tried ++ min-tried ++ negate-tried
-    ++ supplied-one-tried ++ supplied-two-tried ++ value-tried ++ adjoint-tried ++ is-live-tried
+    ++ supplied-one-tried ++ supplied-two-tried ++ sqrt-tried ++ value-tried ++ adjoint-tried ++ is-live-tried
     ++ reset-adjoints-tried ++ backward-tried ++ backward-to-mark-tried ++ backward-mark-to-start-tried
     ++ propagate-to-mark-tried
     ++ propagate-mark-to-start-tried ++ list-tried ++ bits-of-tried ++ refuses-tried ++ untouched-tried

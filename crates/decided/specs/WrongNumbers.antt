@@ -1,11 +1,13 @@
--- Wrong answers that the promises of crate `forward` rule out, two for each function, at an order where they show.
+-- Wrong answers that the promises of crates `root` and `forward` rule out, two or more for each function, at an order
+-- where they show.
 -- `Tried` says what a row is; `NumbersTried` is proved in proofs/Wrong.antt, by computation.
 use Prim.Native.Nat.{ℕ}
 use mathlib.Core.Path.{_≡_}
 use mathlib.Core.Bool.{true, false}
 use mathlib.Core.List.{List, [], _∷_, _++_, map}
-use lib.Ieee.{Float, nan, neg, eq, ne, lt, le}
-use Rattle.forward.specs.Forward.{Fwd, nought, one, constant, variable, value, derivative, sum, difference, product, quotient, negation, sum-plain, difference-plain, plain-difference, product-plain, quotient-plain, plain-quotient, remainder, remainder-plain, compared, compared-plain, gt, ge, comparison, abs, max-val, min-val}
+use lib.Ieee.{Float, nan, inf, binary64, ofBits, div, neg, eq, ne, lt, le}
+use Rattle.root.specs.Value.{root}
+use Rattle.forward.specs.Forward.{Fwd, nought, one, constant, variable, value, derivative, sum, difference, product, quotient, negation, sum-plain, difference-plain, plain-difference, product-plain, quotient-plain, plain-quotient, sqrt, remainder, remainder-plain, compared, compared-plain, gt, ge, comparison, abs, max-val, min-val}
 use Rattle.forward.specs.Rows.{float, parts}
 use Rattle.forward.specs.declared.comparison.Ordering.{Ordering}
 use Rattle.forward.specs.declared.comparison.Ordering.the-variants.{Less, Equal, Greater, NotComparable}
@@ -45,6 +47,18 @@ sixteen =
     ((((float 0, float 1), (float 2, float 3)), ((float 4, float 5), (float 6, float 7))), (((float 8, float 9), (float 10, float 11)), ((float 12, float 13), (float 14, float 15))))
 
 -- ---- the wrong answers
+
+-- sqrt of a float: the digits of the root of 2 cut off, and those of the root of 3 rounded up; +0.0 for -0.0; for a
+-- number below zero the root of its size; NaN for +infinity; the least double taken for 0
+abbrev pub root-tried : List Tried
+root-tried =
+    a-float (root (float 2)) (ofBits binary64 0x3ff6_a09e_667f_3bcc)
+    ∷ a-float (root (float 3)) (ofBits binary64 0x3ffb_b67a_e858_4cab)
+    ∷ a-float (root (neg nought)) nought
+    ∷ a-float (root (neg one)) one
+    ∷ a-float (root (inf false)) nan
+    ∷ a-float (root (ofBits binary64 1)) nought
+    ∷ []
 
 -- constant: a derivative part of 1; the value in both parts
 abbrev pub constant-tried : List Tried
@@ -142,6 +156,14 @@ div-into-tried =
     at-1 (plain-quotient 1 (float 6) x) (quotient-plain 1 x (float 6))
     ∷ at-1 (plain-quotient 1 (float 49) (constant 1 (float 49))) (product-plain 1 (plain-quotient 1 one (constant 1 (float 49))) (float 49)) ∷ []
 
+-- sqrt: the derivative over s; the derivative times 1 / (s * 2.0), which rounds twice; at order 2 the derivative part
+-- over twice the innermost value of s alone
+abbrev pub sqrt-tried : List Tried
+sqrt-tried =
+    at-1 (sqrt 1 (float 9, float 5)) (float 3, div binary64 (float 5) (float 3))
+    ∷ at-1 (sqrt 1 (float 9, float 5)) (float 3, product 0 (float 5) (div binary64 one (float 6)))
+    ∷ at-2 (sqrt 2 ((float 9, float 6), (float 6, float 2))) ((float 3, one), quotient-plain 1 (float 6, float 2) (float 6)) ∷ []
+
 -- rem: the derivative kept; the divisor's sign
 abbrev pub rem-tried : List Tried
 rem-tried =
@@ -231,11 +253,11 @@ of-tried = an-ordering (comparison nan nan) Equal ∷ an-ordering (comparison (n
 
 abbrev pub numbers-tried : List Tried
 numbers-tried =
-    constant-tried ++ var-tried ++ zero-tried ++ one-tried ++ value-tried ++ first-derivative-tried
+    root-tried ++ constant-tried ++ var-tried ++ zero-tried ++ one-tried ++ value-tried ++ first-derivative-tried
     ++ second-derivative-tried ++ third-derivative-tried ++ fourth-derivative-tried ++ add-tried ++ sub-tried
     ++ mul-tried
     ++ div-tried ++ neg-tried ++ add-f64-tried ++ sub-f64-tried ++ mul-f64-tried ++ div-f64-tried
-    ++ sub-from-tried ++ div-into-tried ++ rem-tried ++ rem-f64-tried ++ abs-tried ++ max-val-tried
+    ++ sub-from-tried ++ div-into-tried ++ sqrt-tried ++ rem-tried ++ rem-f64-tried ++ abs-tried ++ max-val-tried
     ++ min-val-tried ++ eq-tried ++ ne-tried ++ lt-tried ++ le-tried ++ gt-tried
     ++ ge-tried ++ partial-cmp-tried ++ eq-f64-tried ++ ne-f64-tried ++ lt-f64-tried ++ le-f64-tried
     ++ gt-f64-tried ++ ge-f64-tried ++ partial-cmp-f64-tried ++ of-tried

@@ -4,8 +4,8 @@ use Prim.Native.Nat.{ℕ}
 use mathlib.Core.Path.{_≡_}
 use mathlib.Core.Bool.{true, false}
 use mathlib.Core.List.{List, [], _∷_, _++_}
-use lib.Ieee.{Float}
-use Rattle.track.specs.Total.{total}
+use lib.Ieee.{Float, binary64, div}
+use Rattle.track.specs.Total.{total, float-total}
 use Rattle.track.specs.Cells as cells
 use Rattle.track.specs.Index as index
 use Rattle.track.specs.Parts as parts
@@ -17,6 +17,9 @@ use Rattle.decided.specs.Tried.{Tried, tried, ruled-out, bits, a-bool}
 
 abbrev pub a-number : ℕ → ℕ → Tried
 a-number = tried (λ n. n ∷ [])
+
+abbrev pub a-float : Float → Float → Tried
+a-float = tried (λ x. bits x ∷ [])
 
 abbrev pub a-weight : Weighed → Weighed → Tried
 a-weight = tried (λ w. bits (w .scaled) ∷ bits (w .root) ∷ bits (w .clip) ∷ [])
@@ -63,6 +66,17 @@ count-off-tried = a-number (total (cells.one-if-off one) ticks) 3 ∷ a-number (
 abbrev pub pulling-cells-tried : List Tried
 pulling-cells-tried = a-number (total (cells.cells-if-pulling one) ticks) 16 ∷ a-number (total (cells.cells-if-pulling one) ticks) 3 ∷ []
 
+-- a fraction of two whole numbers
+abbrev pub fraction : ℕ → ℕ → Float
+fraction m n = div binary64 (cells.float m) (cells.float n)
+
+-- pulling_squares, of a sixteenth too much, an eighth too little and one that is off: with the one that is off; each over
+-- its cells; their mean
+abbrev pub pulling-squares-tried : List Tried
+pulling-squares-tried =
+    let right = float-total (cells.square-if-pulling one) (165 ∷ 310 ∷ 341 ∷ []) in
+    a-float right (fraction 283 3200) ∷ a-float right (fraction 3 512) ∷ a-float right (fraction 5 512) ∷ []
+
 -- median: the one at the middle place of the list; of two the upper; their mean
 abbrev pub median-tried : List Tried
 median-tried =
@@ -73,6 +87,13 @@ median-tried =
 -- is_apart: at exactly 1/64 of a turn; only above the median
 abbrev pub is-apart-tried : List Tried
 is-apart-tried = a-bool (index.apart 8125000 8000000) true ∷ a-bool (index.apart 7874999 8000000) false ∷ []
+
+-- index_squares, of 1/256 of a turn too much, as much too little and one that is apart: with the one that is apart; the
+-- square of their sum; their mean
+abbrev pub index-squares-tried : List Tried
+index-squares-tried =
+    let right = float-total (index.square-if-counted 8000000 one) (8031250 ∷ 7968750 ∷ 8700000 ∷ []) in
+    a-float right (fraction 6297 819200) ∷ a-float right (fraction 0 1) ∷ a-float right (fraction 1 65536) ∷ []
 
 -- part_count: an empty part behind a whole one; the last part left out; one part of nothing
 abbrev pub part-count-tried : List Tried
@@ -85,7 +106,7 @@ part-at-tried = a-part (parts.part 1025 0) (0, 1025) ∷ a-part (parts.part 1025
 abbrev pub track-tried : List Tried
 track-tried =
     nearest-cells-tried ++ weigh-tried ++ is-off-tried ++ count-cells-tried ++ count-off-tried ++ pulling-cells-tried
-    ++ median-tried ++ is-apart-tried ++ part-count-tried ++ part-at-tried
+    ++ pulling-squares-tried ++ median-tried ++ is-apart-tried ++ index-squares-tried ++ part-count-tried ++ part-at-tried
 
 -- none of them is the rule's answer
 abbrev pub TrackTried : Type 0

@@ -69,7 +69,7 @@ stored false (some p) (some q) f = tt
 sides : (op : ℕ) (l r : Float) (g : Supplied) → known op ≡ true → let s = apply {N = floats} op l r (given g) in Side (one-sided op) (s .left) (s .right)
 sides op l r g k =
     let s = getD (rows {N = floats} l r (given g)) op (row nan none none) in
-    stored (one-sided op) (s .left) (s .right) (subst (λ n. Side (one-sided n) (s .left) (s .right)) (zero-add op) (sided 0 (rows {N = floats} l r (given g)) op (ltb-true op 10 k) (tt, (tt, (tt, (tt, (tt, (tt, (tt, (tt, (tt, (tt, tt))))))))))))
+    stored (one-sided op) (s .left) (s .right) (subst (λ n. Side (one-sided n) (s .left) (s .right)) (zero-add op) (sided 0 (rows {N = floats} l r (given g)) op (ltb-true op 11 k) (tt, (tt, (tt, (tt, (tt, (tt, (tt, (tt, (tt, (tt, (tt, tt)))))))))))))
 
 -- ---- operands
 

@@ -15,14 +15,14 @@ use Rattle.expr.specs.declared.operations.Row as code
 up : (k op : ℕ) → k ≤ op → (op ≡ k → ⊥) → suc k ≤ op
 up k op h n = omega arith
 
--- a number that is none of the ten is at least 10
-pub past-ten : (op : ℕ) → (op ≡ 0 → ⊥) → (op ≡ 1 → ⊥) → (op ≡ 2 → ⊥) → (op ≡ 3 → ⊥) → (op ≡ 4 → ⊥) → (op ≡ 5 → ⊥) → (op ≡ 6 → ⊥) → (op ≡ 7 → ⊥) → (op ≡ 8 → ⊥) → (op ≡ 9 → ⊥) → 10 ≤ op
-past-ten op n0 n1 n2 n3 n4 n5 n6 n7 n8 n9 = (up 9 op (up 8 op (up 7 op (up 6 op (up 5 op (up 4 op (up 3 op (up 2 op (up 1 op (up 0 op (omega arith) n0) n1) n2) n3) n4) n5) n6) n7) n8) n9)
+-- a number that is none of the eleven is at least 11
+pub past-all : (op : ℕ) → (op ≡ 0 → ⊥) → (op ≡ 1 → ⊥) → (op ≡ 2 → ⊥) → (op ≡ 3 → ⊥) → (op ≡ 4 → ⊥) → (op ≡ 5 → ⊥) → (op ≡ 6 → ⊥) → (op ≡ 7 → ⊥) → (op ≡ 8 → ⊥) → (op ≡ 9 → ⊥) → (op ≡ 10 → ⊥) → 11 ≤ op
+past-all op n0 n1 n2 n3 n4 n5 n6 n7 n8 n9 n10 = up 10 op (up 9 op (up 8 op (up 7 op (up 6 op (up 5 op (up 4 op (up 3 op (up 2 op (up 1 op (up 0 op (omega arith) n0) n1) n2) n3) n4) n5) n6) n7) n8) n9) n10
 
-unknown : (op : ℕ) → 10 ≤ op → known op ≡ false
-unknown op h = le-ltb op 10 h
+unknown : (op : ℕ) → 11 ≤ op → known op ≡ false
+unknown op h = le-ltb op 11 h
 
-pub past-table : (op : ℕ) (l r : Float) (g : Given floats) → 10 ≤ op → _≡_ {A = Bool × Row floats} (false, row nan none none) (known op, apply op l r g)
+pub past-table : (op : ℕ) (l r : Float) (g : Given floats) → 11 ≤ op → _≡_ {A = Bool × Row floats} (false, row nan none none) (known op, apply op l r g)
 past-table op l r g h = rw (unknown op h, List·getD-eq-default (rows {N = floats} l r g) (row nan none none) h)
 
 back : (x : code.Row) → x ≡ row-of (row-in x .0) (row-in x .1)

@@ -14,6 +14,7 @@ pub use operations::MAX;
 pub use operations::MIN;
 pub use operations::MULTIPLY;
 pub use operations::NEGATE;
+pub use operations::SQRT;
 pub use operations::SUBTRACT;
 pub use operations::SUPPLIED_ONE;
 pub use operations::SUPPLIED_TWO;

@@ -26,6 +26,8 @@ pub const SUPPLIED_ONE: u8 = 8;
 
 pub const SUPPLIED_TWO: u8 = 9;
 
+pub const SQRT: u8 = 10;
+
 // What the host supplies for operations 8 and 9.
 pub struct Supplied {
     pub value: f64,
@@ -73,7 +75,11 @@ pub(crate) fn apply(op: u8, l: f64, r: f64, supplied: Supplied) -> Row
         NEGATE => Row::One(0.0 - l, 0.0 - 1.0),
         SUPPLIED_ONE => Row::One(supplied.value, supplied.left),
         SUPPLIED_TWO => Row::Two(supplied.value, supplied.left, supplied.right),
-        10..=255 => Row::Unknown,
+        SQRT => {
+            let s = root::sqrt(l);
+            Row::One(s, 0.5 / s)
+        }
+        11..=255 => Row::Unknown,
     }
 }
 

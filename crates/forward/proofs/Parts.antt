@@ -4,7 +4,7 @@ use Prim.Native.Nat.{ℕ, suc}
 use mathlib.Core.Path.{_≡_}
 use mathlib.Core.Bool.{Bool, true, false, cond}
 use lib.Ieee.{Float, binary64, rem}
-use Rattle.forward.specs.Forward.{Fwd, constant, sum, difference, product, quotient, negation, plain-difference, plain-quotient}
+use Rattle.forward.specs.Forward.{Fwd, two, constant, sum, difference, product, quotient, negation, product-plain, plain-difference, plain-quotient, sqrt}
 
 -- an operation that works part by part
 pub pair : {A B : Type 0} {x u : A} {y v : B} → x ≡ u → y ≡ v → _≡_ {A = A × B} (x, y) (u, v)
@@ -23,6 +23,9 @@ module _ (n : ℕ) (k : Float) where
 
   pub plain-quotient-of : (y : Fwd n) {l q : Fwd n} → l ≡ constant n k → q ≡ quotient n l y → q ≡ plain-quotient n k y
   plain-quotient-of y e f = cc
+
+pub sqrt-parts : (n : ℕ) (a b : Fwd n) {s t q : Fwd n} → s ≡ sqrt n a → t ≡ product-plain n s two → q ≡ quotient n b t → _≡_ {A = Fwd (suc n)} (s, q) (sqrt (suc n) (a, b))
+sqrt-parts n a b e f g = cc
 
 pub remainder-of : (n : ℕ) {u v x y : Float} {r : Fwd n} → u ≡ x → v ≡ y → r ≡ constant n (rem binary64 u v) → r ≡ constant n (rem binary64 x y)
 remainder-of n e f g = cc

@@ -19,6 +19,7 @@ values zero = record {
   of-plain-difference = λ k y. refl;
   of-product-plain = λ x k. refl;
   of-plain-quotient = λ k y. refl;
+  of-sqrt = λ x. refl;
 }
 values (suc n) =
     let below = values n in
@@ -35,4 +36,5 @@ values (suc n) =
       of-plain-difference = λ k y. below .of-difference (constant n k) (y .0) ∙ ap (λ v. sub binary64 v (value n (y .0))) (below .of-constant k);
       of-product-plain = λ x k. below .of-product-plain (x .0) k;
       of-plain-quotient = λ k y. below .of-quotient (constant n k) (y .0) ∙ ap (λ v. div binary64 v (value n (y .0))) (below .of-constant k);
+      of-sqrt = λ x. below .of-sqrt (x .0);
     }

@@ -5,6 +5,7 @@
 use Prim.Native.Nat.{ℕ, zero, suc}
 use mathlib.Core.Bool.{Bool, cond}
 use lib.Ieee.{Float, nan, binary64, ofBits, add, sub, mul, div, rem, neg, lt, le, eq}
+use Rattle.root.specs.Value.{root}
 use Rattle.forward.specs.declared.comparison.Ordering.{Ordering}
 use Rattle.forward.specs.declared.comparison.Ordering.the-variants.{Less, Equal, Greater, NotComparable}
 
@@ -12,12 +13,15 @@ abbrev pub Fwd : ℕ → Type 0
 Fwd zero = Float
 Fwd (suc n) = Fwd n × Fwd n
 
--- +0.0 and 1.0
+-- +0.0, 1.0 and 2.0
 abbrev pub nought : Float
 nought = ofBits binary64 0
 
 abbrev pub one : Float
 one = ofBits binary64 0x3ff0_0000_0000_0000
+
+abbrev pub two : Float
+two = ofBits binary64 0x4000_0000_0000_0000
 
 -- ---- making and reading
 
@@ -92,6 +96,15 @@ quotient-plain (suc n) x k = product-plain (suc n) x (div binary64 one k)
 -- k divided by a number is constant k over it
 abbrev pub plain-quotient : (n : ℕ) → Float → Fwd n → Fwd n
 plain-quotient n k y = quotient n (constant n k) y
+
+-- ---- the square root
+
+-- at order 0 the root itself (crates/root); above it s, the root of the value part, and the derivative part over s * 2.0
+abbrev pub sqrt : (n : ℕ) → Fwd n → Fwd n
+sqrt zero x = root x
+sqrt (suc n) (a, b) =
+    let s = sqrt n a in
+    (s, quotient n b (product-plain n s two))
 
 -- ---- by the innermost values only
 

@@ -1,11 +1,11 @@
--- Rows P9 to P12 of document 01's table: what is reckoned at which order, and what has to be seen. `EveryRow` is proved
--- in proofs/Rows.antt, by computation.
+-- Rows P9 to P12 of document 01's table, and one of C-13's square root: what is reckoned at which order, and what has to
+-- be seen. `EveryRow` and `Holds root-at-four` are proved in proofs/Rows.antt, by computation.
 use Prim.Native.Nat.{ℕ, zero, suc}
 use mathlib.Core.Path.{_≡_}
 use mathlib.Core.List.{List, [], _∷_, _++_, map}
 use lib.IntN.{pos}
-use lib.Ieee.{Float, binary64, ofInt, toBits}
-use Rattle.forward.specs.Forward.{Fwd, constant, variable, value, derivative, product, quotient-plain, plain-difference, nought}
+use lib.Ieee.{Float, binary64, div, neg, ofInt, toBits}
+use Rattle.forward.specs.Forward.{Fwd, constant, variable, value, derivative, product, quotient-plain, plain-difference, sqrt, nought}
 
 -- ---- what a row is
 
@@ -15,6 +15,7 @@ pub data Formula : Type 0 where
   times : Formula → Formula → Formula
   over-plain : Formula → Float → Formula
   plain-minus : Float → Formula → Formula
+  root-of : Formula → Formula
 
 abbrev pub reckoned : (n : ℕ) → Formula → Fwd n
 reckoned n (constantly c) = constant n c
@@ -22,6 +23,7 @@ reckoned n (variably v) = variable n v
 reckoned n (times f g) = product n (reckoned n f) (reckoned n g)
 reckoned n (over-plain f k) = quotient-plain n (reckoned n f) k
 reckoned n (plain-minus k f) = plain-difference n k (reckoned n f)
+reckoned n (root-of f) = sqrt n (reckoned n f)
 
 -- every part, value parts before derivative parts
 abbrev pub parts : (n : ℕ) → Fwd n → List Float
@@ -90,3 +92,15 @@ rows = P9 ∷ P10 ∷ P11 ∷ P12 ∷ []
 
 abbrev pub EveryRow : Type 0
 EveryRow = All rows
+
+-- the fraction of two whole numbers
+abbrev pub fraction : ℕ → ℕ → Float
+fraction a b = div binary64 (float a) (float b)
+
+-- the square root at 4, with its derivatives to the fourth: 2, 1/4, -1/32, 3/256, -15/2048
+abbrev pub root-at-four : Row
+root-at-four = record {
+  order = 4;
+  formula = root-of (variably (float 4));
+  sight = derivatives (float 2 ∷ fraction 1 4 ∷ neg (fraction 1 32) ∷ fraction 3 256 ∷ neg (fraction 15 2048) ∷ []);
+}

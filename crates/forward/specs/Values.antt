@@ -4,7 +4,8 @@ use Prim.Native.Nat.{ℕ}
 use mathlib.Core.Path.{_≡_}
 use lib.Ieee.{Float, binary64, add, sub, mul, div, neg}
 use Rattle.forward.specs.Forward.{Fwd, value, constant, variable, sum, difference, product, quotient, negation}
-use Rattle.forward.specs.Forward.{sum-plain, difference-plain, plain-difference, product-plain, plain-quotient}
+use Rattle.forward.specs.Forward.{sum-plain, difference-plain, plain-difference, product-plain, plain-quotient, sqrt}
+use Rattle.root.specs.Value.{root}
 
 pub record Values (n : ℕ) : Type 0 where
   pub of-constant : (c : Float) → value n (constant n c) ≡ c
@@ -19,3 +20,4 @@ pub record Values (n : ℕ) : Type 0 where
   pub of-plain-difference : (k : Float) (y : Fwd n) → value n (plain-difference n k y) ≡ sub binary64 k (value n y)
   pub of-product-plain : (x : Fwd n) (k : Float) → value n (product-plain n x k) ≡ mul binary64 (value n x) k
   pub of-plain-quotient : (k : Float) (y : Fwd n) → value n (plain-quotient n k y) ≡ div binary64 k (value n y)
+  pub of-sqrt : (x : Fwd n) → value n (sqrt n x) ≡ root (value n x)

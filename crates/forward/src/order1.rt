@@ -4,7 +4,7 @@ ghost use mathlib.Core.Path.{_≡_};
 ghost use lib.Ieee.{eq, ne, lt, le};
 ghost use Rattle.forward.specs.Forward.{nought, one, constant, variable, value, derivative, sum, difference, product, quotient, negation};
 ghost use Rattle.forward.specs.Forward.{sum-plain, difference-plain, product-plain, quotient-plain, plain-difference, plain-quotient};
-ghost use Rattle.forward.specs.Forward.{remainder, remainder-plain, compared, compared-plain, gt, ge, comparison, abs, max-val, min-val};
+ghost use Rattle.forward.specs.Forward.{sqrt, remainder, remainder-plain, compared, compared-plain, gt, ge, comparison, abs, max-val, min-val};
 ghost use Rattle.forward.specs.Number.{number1};
 
 pub struct Fwd1 {
@@ -162,6 +162,17 @@ impl Fwd1 {
         ensures { λ x. ⌜ number1 x ≡ plain-quotient 1 k (number1 self) ⌝ }
     {
         Fwd1::constant(k).div(self)
+    }
+
+    // The square root: s, that of the value part, and dot / (s * 2.0).
+    pub fn sqrt(self) -> Fwd1
+        ensures { λ x. ⌜ number1 x ≡ sqrt 1 (number1 self) ⌝ }
+    {
+        let s = root::sqrt(self.val);
+        Fwd1 {
+            val: s,
+            dot: self.dot / (s * 2.0),
+        }
     }
 
     // The constant of the values' remainder.

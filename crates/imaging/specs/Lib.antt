@@ -1,3 +1,4 @@
 pub mod Flux
+pub mod Spread
 pub mod Tally
 pub mod Text

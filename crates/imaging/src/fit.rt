@@ -12,12 +12,12 @@ use crate::turn;
 use crate::turn::INDEX_NODES;
 use crate::turn::INTERVAL_NODES;
 use crate::turn::Index;
-use crate::turn::TURN;
 use crate::turn::Turned;
 use dual::Cleared;
 use dual::Read;
 use tape::MOST_EDGES;
 use tape::Tape;
+use track::TURN;
 ghost use Prim.Native.Nat.{_≤_};
 ghost use Rattle.imaging.specs.Flux.{Within};
 
@@ -60,11 +60,11 @@ pub struct Steps {
 
 // Where a step is taken, of how many intervals, and how much pulls there: turns whose index time does, and the cells of
 // the intervals that do.
-struct Place {
-    drive: Drive,
-    intervals: f64,
-    turns: f64,
-    cells: f64,
+pub struct Place {
+    pub drive: Drive,
+    pub intervals: f64,
+    pub turns: f64,
+    pub cells: f64,
 }
 
 // The model of a step, and what its turns came to so far.
@@ -318,7 +318,13 @@ fn index_of(time: u32, median: u32) -> Index {
     Index::Pulls(time)
 }
 
-fn place_at(drive: Drive, reading: Reading, times: &Times, ticks: &[u32], median: u32) -> Place
+pub(crate) fn place_at(
+    drive: Drive,
+    reading: Reading,
+    times: &Times,
+    ticks: &[u32],
+    median: u32,
+) -> Place
     requires { ⌜ Within reading ⌝ }
 {
     let cells = track::pulling_cells(flux::of_all(reading, ticks), drive.seen());

@@ -151,6 +151,16 @@ pub(crate) fn of_all<'a>(reading: Reading, ticks: &'a [u32]) -> &'a [u32] {
     &ticks[..read]
 }
 
+// The index times of all turns.
+pub(crate) fn index_times<'a>(reading: Reading, times: &'a [u32]) -> &'a [u32] {
+    let read = least(reading.revolutions, times.len());
+    &times[..read]
+}
+
+pub(crate) fn median(reading: Reading, times: &[u32]) -> u32 {
+    track::median(index_times(reading, times))
+}
+
 pub(crate) fn least(a: usize, b: usize) -> usize
     ensures { λ r. ⌜ (r ≤ a) × (r ≤ b) ⌝ }
 {

@@ -7,6 +7,7 @@ mod lines;
 mod model;
 mod out;
 mod report;
+mod spread;
 mod tally;
 mod turn;
 mod verdict;
@@ -151,9 +152,9 @@ fn fit_turns(
     requires { ⌜ Within reading ⌝ }
 {
     let revolutions = reading.revolutions;
-    let median = median(times, revolutions);
+    let median = flux::median(reading, times);
     let steps = fit::fit(reading, times, ends, ticks, median);
-    let judged = verdict::judge(steps, reading, ends, ticks);
+    let judged = verdict::judge(steps, reading, times, ends, ticks, median);
     let last = steps.last;
     let reached = last.drive;
     let by_cells = judged.by_cells;
@@ -164,12 +165,4 @@ fn fit_turns(
         out: report::steps(told, steps, verbose),
         fitted: judged.is_fitted(),
     }
-}
-
-// That there are no more revolutions than times is asked again, in place of a proof.
-fn median(times: &[u32], revolutions: usize) -> u32 {
-    if revolutions > times.len() {
-        return 0;
-    }
-    track::median(&times[..revolutions])
 }

@@ -10,22 +10,6 @@ pub struct Out {
     pub good: bool,
 }
 
-// With how many decimals a number is written.
-pub struct Decimals {
-    pub places: usize,
-    pub scale: f64,
-}
-
-pub const THREE: Decimals = Decimals {
-    places: 3,
-    scale: 1_000.0,
-};
-
-pub const NINE: Decimals = Decimals {
-    places: 9,
-    scale: 1_000_000_000.0,
-};
-
 impl Out {
     pub(crate) fn text(self, bytes: &[u8]) -> Out {
         if self.good {
@@ -58,13 +42,22 @@ impl Out {
         named.text(b"s")
     }
 
-    pub(crate) fn decimal(self, x: f64, decimals: Decimals) -> Out
-        requires { ⌜ decimals .places ≤ 11 ⌝ }
+    pub(crate) fn decimal(self, x: f64, places: usize) -> Out
+        requires { ⌜ places ≤ 11 ⌝ }
     {
-        match digits::round(x, decimals.scale) {
-            Rounded::To(n) => self.rounded(n, decimals.places),
+        match digits::round(x, places) {
+            Rounded::To(n) => self.rounded(n, places),
             Rounded::OutOfRange => self.text(b"out of range"),
         }
+    }
+
+    // A number with its standard error, of which two digits are written. The two bytes between them are the sign in
+    // UTF-8.
+    pub(crate) fn with_error(self, x: f64, error: f64) -> Out {
+        let places = digits::error_places(error);
+        self.decimal(x, places)
+            .text(b" \xc2\xb1 ")
+            .decimal(error, places)
     }
 
     fn rounded(self, n: u64, places: usize) -> Out

@@ -12,13 +12,13 @@ use crate::flux::Reading;
 use crate::flux::SHORTEST_TURN;
 use crate::flux::Times;
 use crate::model::Drive;
-use crate::out::NINE;
 use crate::out::Out;
-use crate::out::THREE;
-use crate::turn::TURN;
+use crate::spread::Error;
+use crate::spread::Spread;
 use crate::verdict::CELLS;
 use crate::verdict::Judged;
 use crate::verdict::Verdict;
+use track::TURN;
 ghost use Prim.Native.Nat.{_≤_};
 
 const RPM: f64 = 300.0;
@@ -42,22 +42,46 @@ pub(crate) fn verdict(
     let named = out.text(name).text(b": ");
     let all = reading.intervals;
     if judged.is_fitted() {
-        return fitted(named, drive, judged.off, reading.revolutions, all).text(b"\n");
+        let told = fitted(named, drive, judged.spread);
+        return rests_on(told, judged.off, reading.revolutions, all).text(b"\n");
     }
     let verdict = judged.verdict;
     why_not(named.text(b"not fitted: "), verdict, all).text(b"\n")
 }
 
-fn fitted(out: Out, drive: Drive, off: usize, turns: usize, all: usize) -> Out {
-    let named = settings(out.text(b"fitted: speed "), drive);
-    let counted = named.text(b"; ").counted(turns, b"turn").text(b", ");
-    some_of(counted, off, all).text(b" off")
+fn fitted(out: Out, drive: Drive, spread: Spread) -> Out {
+    let named = out.text(b"fitted: speed ");
+    let speed = spread.speed;
+    let told = result(named, drive.speed, speed, RPM, b" rpm", b"index time").text(b", cell ");
+    let cell = spread.cell;
+    result(told, drive.cell, cell, NANOSECONDS, b" ns", b"interval")
+        .text(b", rms ")
+        .decimal(spread.rms * NANOSECONDS, 1)
+        .text(b" ns; ")
+}
+
+// A setting in its unit, with its error or why it has none.
+fn result(out: Out, x: f64, error: Error, nominal: f64, unit: &[u8], one: &[u8]) -> Out {
+    match error {
+        Error::Known(e) => out.with_error(x * nominal, e * nominal).text(unit),
+        Error::OfOne => {
+            out.decimal(x * nominal, 3)
+                .text(unit)
+                .text(b" (one ")
+                .text(one)
+                .text(b", so no standard error)")
+        }
+    }
+}
+
+fn rests_on(out: Out, off: usize, turns: usize, all: usize) -> Out {
+    some_of(out.counted(turns, b"turn").text(b", "), off, all).text(b" off")
 }
 
 fn settings(out: Out, drive: Drive) -> Out {
-    out.decimal(drive.speed * RPM, THREE)
+    out.decimal(drive.speed * RPM, 3)
         .text(b" rpm, cell ")
-        .decimal(drive.cell * NANOSECONDS, THREE)
+        .decimal(drive.cell * NANOSECONDS, 3)
         .text(b" ns")
 }
 
@@ -119,7 +143,7 @@ fn turn(out: Out, number: usize, time: u32, ticks: &[u32], seen: f64, median: u3
     let named = out.text(b"  turn ")
         .number(number)
         .text(b": ")
-        .decimal(speed, THREE)
+        .decimal(speed, 3)
         .text(b" rpm, ");
     let off = track::count_off(ticks, seen);
     let told = a_part(some_of(named, off, ticks.len()).text(b" off"), time, ticks);
@@ -179,7 +203,7 @@ fn step(out: Out, number: usize, misfit: f64, drive: Drive, edges: u64) -> Out {
     let named = out.text(b"  step ")
         .number(number)
         .text(b": misfit ")
-        .decimal(misfit, NINE)
+        .decimal(misfit, 9)
         .text(b", speed ");
     settings(named, drive)
         .text(b", ")

@@ -8,6 +8,7 @@ use tape::Moved;
 use tape::Operand;
 use tape::Refusal;
 use tape::Tape;
+use track::TURN;
 use track::Weighed;
 ghost use Prim.Native.Nat.{_≤_};
 ghost use lib.ListN.{length};
@@ -16,9 +17,6 @@ ghost use lib.ListN.{length};
 pub const INDEX_NODES: usize = 2;
 
 pub const INTERVAL_NODES: usize = 5;
-
-// Nominal: a turn at 300 rpm, in ticks of 25 ns.
-pub const TURN: f64 = 8_000_000.0;
 
 // An index time that pulls, or none.
 pub enum Index {

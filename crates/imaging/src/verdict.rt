@@ -5,6 +5,9 @@ use crate::fit::Steps;
 use crate::flux;
 use crate::flux::Ends;
 use crate::flux::Reading;
+use crate::flux::Times;
+use crate::spread;
+use crate::spread::Spread;
 ghost use Prim.Native.Nat.{_≤_};
 ghost use Rattle.imaging.specs.Flux.{Within};
 
@@ -25,12 +28,14 @@ pub enum Verdict {
 // How many cells an interval has at most.
 pub const CELLS: usize = 8;
 
-// At what was reached: how long a cell is read, how many intervals have 1 to 8 cells, how many are off, and the verdict.
+// At what was reached: how long a cell is read, how many intervals have 1 to 8 cells, how many are off, how well it fits,
+// and the verdict.
 pub struct Judged {
     pub verdict: Verdict,
     pub seen: f64,
     pub by_cells: [usize; CELLS],
     pub off: usize,
+    pub spread: Spread,
 }
 
 // MFM has intervals of 2, 3 and 4 cells. What more than 1 in 64 intervals have is common.
@@ -42,7 +47,14 @@ const RARE: usize = 512;
 
 const ENOUGH: usize = 4_096;
 
-pub(crate) fn judge(steps: Steps, reading: Reading, ends: &Ends, ticks: &[u32]) -> Judged
+pub(crate) fn judge(
+    steps: Steps,
+    reading: Reading,
+    times: &Times,
+    ends: &Ends,
+    ticks: &[u32],
+    median: u32,
+) -> Judged
     requires { ⌜ Within reading ⌝ }
 {
     let last = steps.last;
@@ -59,6 +71,7 @@ pub(crate) fn judge(steps: Steps, reading: Reading, ends: &Ends, ticks: &[u32]) 
         seen,
         by_cells,
         off,
+        spread: spread::spread_at(drive, reading, times, ticks, median),
     }
 }
 

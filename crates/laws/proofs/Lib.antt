@@ -3,6 +3,7 @@ pub mod Laws
 pub mod Methods
 pub mod Apart
 pub mod Regrouped
+pub mod Halved
 pub mod OnATape
 pub mod Examples
 pub mod Proved

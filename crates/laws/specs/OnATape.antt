@@ -1,14 +1,15 @@
 -- Which of the laws hold of the values that a tape records, by its operations table: 1 is a sum, 2 a difference, 3 a
--- product, and 7 the negation, which is 0 - l; and that max and min choose as max_val and min_val do. Proved in
--- proofs/OnATape.antt.
+-- product, and 7 the negation, which is 0 - l; that max and min choose as max_val and min_val do; and that the square
+-- root's partial is the derivative of sqrt. Proved in proofs/OnATape.antt.
 use Prim.Native.Nat.{ℕ}
 use mathlib.Core.Path.{_≡_}
 use mathlib.Core.List.{[], _∷_}
 use mathlib.Core.Option.{some}
 use lib.Ieee.{Float, nan, neg}
-use Rattle.forward.specs.Forward.{Fwd, nought, constant, variable, derivative, max-val, min-val}
+use Rattle.root.specs.Root.{Double}
+use Rattle.forward.specs.Forward.{Fwd, nought, constant, variable, derivative, sqrt, max-val, min-val}
 use Rattle.tape.specs.Numbers.{floats}
-use Rattle.tape.specs.Operations.{Row, MAX, MIN, apply}
+use Rattle.tape.specs.Operations.{Row, MAX, MIN, SQRT, apply}
 use Rattle.laws.specs.Shown.{Changed}
 
 -- the row of operation op; what the host supplies is not used by those named here
@@ -40,3 +41,6 @@ pub record OnATape : Type 0 where
   -- the left partial is the derivative of max_val and min_val as the left operand moves: at a tie 1, as theirs
   pub max-pulls-left : (l r : Float) → row-of MAX l r .left ≡ some (moved-left (max-val 1) l r)
   pub min-pulls-left : (l r : Float) → row-of MIN l r .left ≡ some (moved-left (min-val 1) l r)
+  -- the partial of a root s is 0.5 / s, and the derivative of sqrt at a variable is 1.0 / (s * 2.0): of every double the
+  -- same bits
+  pub root-pulls : (x : Float) → Double x → row-of SQRT x nan .left ≡ some (derivative 1 1 (sqrt 1 (variable 1 x)))

@@ -1,6 +1,7 @@
 // A case of a list, a line or the lines of a sequence, replayed as what the list has cases of.
 use crate::kinds::Subject;
 use crate::orders;
+use crate::roots;
 use crate::sequences;
 use crate::table;
 use crate::tally::Tally;
@@ -13,6 +14,7 @@ pub(crate) fn replay(list: &[u8], subject: Subject, case: &[u8], before: Tally) 
         Subject::Table => table::replay(list, case, before.next_line()),
         Subject::Sequences => sequences::replay(list, case, before),
         Subject::Stale => sequences::replay(list, case, before),
+        Subject::Roots => roots::replay(list, case, before.next_line()),
     }
 }
 
@@ -27,6 +29,7 @@ pub(crate) fn is_end(subject: Subject, byte: u8, case: &[u8], pending: usize) ->
         Subject::Table => true,
         Subject::Sequences => ends_in_a_feed(case, pending),
         Subject::Stale => ends_in_a_feed(case, pending),
+        Subject::Roots => true,
     }
 }
 

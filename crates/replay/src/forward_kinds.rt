@@ -47,6 +47,8 @@ pub const COMPARE: usize = 21;
 
 pub const COMPARE_F64: usize = 22;
 
+pub const SQRT: usize = 23;
+
 // How many words a number of an order is.
 pub(crate) fn number_words(order: usize) -> usize
     ensures { λ r. ⌜ r ≤ 16 ⌝ }
@@ -67,7 +69,7 @@ pub(crate) fn operand_words(kind: usize, size: usize) -> usize
     match kind {
         ZERO | ONE => 0,
         CONSTANT | VAR => 1,
-        READS | NEG | ABS => size,
+        READS | NEG | ABS | SQRT => size,
         ADD | SUB | MUL | DIV | REM | MAX_VAL | MIN_VAL | COMPARE => 2 * size,
         _ => size + 1,
     }

@@ -5,18 +5,19 @@ use crate::tape_kinds::KINDS;
 use crate::words::find;
 use crate::words::is_first_word;
 
-pub const FORWARD: [u8; 150] =
-    *b"constant var zero one reads add sub mul div rem max_val min_val neg abs add_f64 sub_f64 mul_f64 div_f64 rem_f64 sub_from div_into compare compare_f64 ";
+pub const FORWARD: [u8; 155] =
+    *b"constant var zero one reads add sub mul div rem max_val min_val neg abs add_f64 sub_f64 mul_f64 div_f64 rem_f64 sub_from div_into compare compare_f64 sqrt ";
 
-pub const TAPE: [u8; 270] =
-    *b"leaf add sub mul div max min neg supplied_one supplied_two start_recording stop_recording set_mark reset_mark rewind_to_mark rewind_to_init backward backward_to_mark backward_mark_to_start propagate_to_mark propagate_mark_to_start reset_adjoints value adjoint end stale ";
+pub const TAPE: [u8; 275] =
+    *b"leaf add sub mul div max min neg supplied_one supplied_two sqrt start_recording stop_recording set_mark reset_mark rewind_to_mark rewind_to_init backward backward_to_mark backward_mark_to_start propagate_to_mark propagate_mark_to_start reset_adjoints value adjoint end stale ";
 
-// Of forward numbers, of an order, or of the tape.
+// Of forward numbers, of an order, of the tape, or of square roots alone.
 pub enum Subject {
     Forward(usize),
     Table,
     Sequences,
     Stale,
+    Roots,
 }
 
 // Whether the report of a list has a line for a kind: for operations 8 and 9 only where the list has cases of them.
@@ -26,6 +27,7 @@ pub(crate) fn is_reported(subject: Subject, kind: usize, cases: u64) -> bool {
         Subject::Table => tape_kinds::is_operation(kind) & is_met(kind, cases),
         Subject::Sequences => (kind != tape_kinds::STALE) & is_met(kind, cases),
         Subject::Stale => kind == tape_kinds::STALE,
+        Subject::Roots => kind == tape_kinds::SQRT,
     }
 }
 

@@ -13,6 +13,7 @@ mod order3;
 mod order4;
 mod orders;
 mod report;
+mod roots;
 mod sequences;
 mod table;
 mod tally;
@@ -25,6 +26,7 @@ use lists::replay;
 fn main() {
     forward_lists();
     tape_lists();
+    replay(b"roots.txt", Subject::Roots);
     // Without them, a comparison that sees nothing would pass for one that finds nothing.
     report::text(b"control: each of these must differ\n");
     controls();
@@ -55,4 +57,5 @@ fn controls() {
     replay(b"supplied_table_control.txt", Subject::Table);
     replay(b"supplied_sequences_control.txt", Subject::Sequences);
     replay(b"supplied_sessions_control.txt", Subject::Sequences);
+    replay(b"roots_control.txt", Subject::Roots);
 }

@@ -46,6 +46,7 @@ fn number(kind: usize, x: Fwd1, y: Fwd1, k: f64) -> Fwd1 {
         DIV_F64 => x.div_f64(k),
         REM_F64 => x.rem_f64(k),
         SUB_FROM => x.sub_from(k),
+        SQRT => x.sqrt(),
         _ => x.div_into(k),
     }
 }

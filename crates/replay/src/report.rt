@@ -136,6 +136,7 @@ pub(crate) fn summary(list: &[u8], subject: Subject, tally: Tally) {
         Subject::Table => each_of_the_tape(list, subject, tally),
         Subject::Sequences => each_of_the_tape(list, subject, tally),
         Subject::Stale => each_of_the_tape(list, subject, tally),
+        Subject::Roots => each_of_the_tape(list, subject, tally),
     }
     if tally.runs > 0 {
         text(list);

@@ -14,8 +14,10 @@ const SUPPLIED_ONE: usize = expr::SUPPLIED_ONE as usize;
 
 const SUPPLIED_TWO: usize = expr::SUPPLIED_TWO as usize;
 
+pub const SQRT: usize = expr::SQRT as usize;
+
 // The calls that record nothing: those that move the mark or the length first, then the passes.
-const CALLS: usize = SUPPLIED_TWO + 1;
+const CALLS: usize = SQRT + 1;
 
 pub const START_RECORDING: usize = CALLS;
 
@@ -84,7 +86,7 @@ pub(crate) fn operands_of(kind: usize) -> usize
     ensures { λ r. ⌜ r ≤ 2 ⌝ }
 {
     match kind {
-        LEAF | NEGATE | SUPPLIED_ONE => 1,
+        LEAF | NEGATE | SUPPLIED_ONE | SQRT => 1,
         BACKWARD | BACKWARD_TO_MARK | BACKWARD_MARK_TO_START | VALUE | ADJOINT => 1,
         _ => { if kind < CALLS { 2 } else { 0 } }
     }

@@ -47,9 +47,9 @@ module _ (N : Numbers) (b : ℕ) where
       by-test (λ (m : ResolvedOperand N). getD (models ++ owns) i (N .blank) ≡ value-resolved models owns m) (ltb i b) (λ t. List·getD-append models owns (N .blank) i (omega (arith, ltb-true i b t)))
       (λ t. let past : b ≤ i = ltb-false _ _ t in let back : length models + (i - b) ≡ i = omega arith in rw back at (getD-append-add models owns (i - b) (N .blank)))
 
--- operations 0, 7 and 8 do not look at the right value
+-- operations 0, 7, 8 and 10 do not look at the right value
 right-idle : {N : Numbers} (op : ℕ) (l r x : N .Number) (g : Given N) → one-sided op ≡ true → apply op l r g ≡ apply op l x g
-right-idle op l r x g = by-one-sided (λ op. apply op l r g ≡ apply op l x g) op refl refl refl
+right-idle op l r x g = by-one-sided (λ op. apply op l r g ≡ apply op l x g) op refl refl refl refl
 
 -- equal rows make equal nodes
 by-rows : {N : Numbers} (b : ℕ) (l r : Operand N) (m : ResolvedOperand N) (s t : Row N) → s ≡ t → edge r (t .right) ≡ edge-resolved b m (t .right)

@@ -1,13 +1,17 @@
-// Records, walks and rewinds a full tape as often as it is told. A line of standard input names a plan of operands and
-// a number of rounds, as `near 100`, and a line of output says what they came to. There is no clock here: bench/run
-// measures from outside, this program and the Rust alike (docs/SPEED.md).
+// Records, walks and rewinds a full tape as often as it is told, or takes as many square roots. A line of standard input
+// names a plan and a number of rounds, as `near 100`, and a line of output says what they came to. There is no clock
+// here: bench/run measures from outside, this program and the Rust alike (docs/SPEED.md).
 mod plan;
 mod report;
 mod requests;
+mod roots;
 mod rounds;
 
 use plan::NODES;
+use plan::Reach;
+use requests::Plan;
 use requests::Request;
+use roots::Sort;
 
 const SLOTS: usize = 2 * NODES;
 
@@ -30,14 +34,25 @@ fn each_line(text: &[u8]) {
 }
 
 fn run(request: Request) {
-    let mut word = [0u64; NODES];
-    let mut plain = [0.0; NODES];
-    let reach = request.reach;
-    plan::lay_out(reach, &mut word, &mut plain);
-    repeat(request, &word, &plain);
+    let plan = request.plan;
+    match plan {
+        Plan::Tape(reach) => record(reach, request.times),
+        Plan::Roots(sort) => take_roots(sort, request.times),
+    }
 }
 
-fn repeat(request: Request, word: &[u64; NODES], plain: &[f64; NODES]) {
+fn take_roots(sort: Sort, times: u64) {
+    report::roots(sort, times, roots::repeat(sort, times));
+}
+
+fn record(reach: Reach, times: u64) {
+    let mut word = [0u64; NODES];
+    let mut plain = [0.0; NODES];
+    plan::lay_out(reach, &mut word, &mut plain);
+    repeat(reach, times, &word, &plain);
+}
+
+fn repeat(reach: Reach, times: u64, word: &[u64; NODES], plain: &[f64; NODES]) {
     let mut value = [0.0; NODES];
     let mut adjoint = [0.0; NODES];
     let mut serial = [0u64; NODES];
@@ -46,7 +61,7 @@ fn repeat(request: Request, word: &[u64; NODES], plain: &[f64; NODES]) {
     let mut partial = [0.0; SLOTS];
     let mut serials = [0u64; NODES];
     let edges = rounds::repeat(
-        request.times,
+        times,
         &mut value,
         &mut adjoint,
         &mut serial,
@@ -57,5 +72,5 @@ fn repeat(request: Request, word: &[u64; NODES], plain: &[f64; NODES]) {
         plain,
         &mut serials,
     );
-    report::rounds(request, edges, &value, &adjoint);
+    report::rounds(reach, times, edges, &value, &adjoint);
 }

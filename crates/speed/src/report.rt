@@ -1,18 +1,17 @@
 // What a run comes to: how many edges its last walk visited, and a digest of the values and of the adjoints that it
-// left.
+// left; or a digest of square roots.
 use crate::plan::Reach;
 use crate::plan::SEED;
 use crate::plan::next;
-use crate::requests::Request;
+use crate::roots::Sort;
 use libc::STDOUT_FILENO;
 use listing::bits_of;
 
 const DIGITS: usize = 16;
 
-pub(crate) fn rounds(request: Request, edges: u32, value: &[f64], adjoint: &[f64]) {
-    let reach = request.reach;
+pub(crate) fn rounds(reach: Reach, times: u64, edges: u32, value: &[f64], adjoint: &[f64]) {
     name(reach);
-    number(b" times=", request.times);
+    number(b" times=", times);
     number(b" nodes=", value.len() as u64);
     number(b" edges=", edges as u64);
     text(b" values=");
@@ -20,6 +19,22 @@ pub(crate) fn rounds(request: Request, edges: u32, value: &[f64], adjoint: &[f64
     text(b" adjoints=");
     io::print_hex(STDOUT_FILENO, digest(adjoint), DIGITS);
     text(b"\n");
+}
+
+pub(crate) fn roots(sort: Sort, times: u64, digest: u64) {
+    name_of_sort(sort);
+    number(b" times=", times);
+    text(b" digest=");
+    io::print_hex(STDOUT_FILENO, digest, DIGITS);
+    text(b"\n");
+}
+
+fn name_of_sort(sort: Sort) {
+    match sort {
+        Sort::Doubles => text(b"doubles"),
+        Sort::Subnormals => text(b"subnormals"),
+        Sort::Idle => text(b"idle"),
+    }
 }
 
 fn name(reach: Reach) {

@@ -2,7 +2,7 @@
 use Rattle.tape.specs.Answers.{OneToOne}
 use Rattle.tape.specs.Kept.{StaleHandles, Revived, Serials, Recording}
 use Rattle.tape.specs.Passes.{EachEdge, OnlyAdjoints, EmptyRange, BothRanges, NeverUnsound}
-use Rattle.tape.specs.Rows.{EveryRow, EveryChoice, EveryText}
+use Rattle.tape.specs.Rows.{EveryRow, EveryChoice, EveryRoot, EveryText}
 use Rattle.tape.specs.Pairs.{Order}
 use Rattle.tape.proofs.OneToOne as answers
 use Rattle.tape.proofs.Pairs as pairs
@@ -48,6 +48,9 @@ every-row = rows.every-row
 
 every-choice : EveryChoice
 every-choice = rows.every-choice
+
+every-root : EveryRoot
+every-root = rows.every-root
 
 every-text : EveryText
 every-text = rows.every-text

@@ -1,7 +1,10 @@
 -- Every row and every text holds: both sides are computed.
-use mathlib.Core.Path.{refl}
-use lib.Ieee.{add, sub, mul, div, neg, lt, le, ofInt, ofBits, toBits}
-use Rattle.tape.specs.Rows.{EveryRow, EveryChoice, EveryText}
+use mathlib.Core.Path.{_≡_, refl}
+use mathlib.Core.Bool.{false}
+use lib.IntN.{pos}
+use lib.Ieee.{fin, binary64, add, sub, mul, div, neg, lt, le, round, ofInt, ofBits, toBits}
+use Rattle.root.specs.Value.{root}
+use Rattle.tape.specs.Rows.{Holds, float, rooted, EveryRow, EveryChoice, EveryRoot, EveryText}
 use Rattle.tape.specs.Steps.{step}
 
 pub every-row : EveryRow
@@ -90,6 +93,27 @@ every-choice = (
   (refl, (refl, tt)),
   (refl, (refl, tt)),
   (refl, (refl, tt)),
+)
+
+-- with the root computed apart: within the call it would be computed many times over
+of-four : root (fin false 1 (pos 2)) ≡ fin false 1 (pos 1)
+unfolding root round
+of-four = refl
+
+at-four : Holds (rooted (float 4) (float 2) (ofBits binary64 0x3fd0_0000_0000_0000))
+unfolding step div ofInt ofBits
+at-four = (rw (of-four), (refl, (rw (of-four), tt)))
+
+pub every-root : EveryRoot
+unfolding step root div neg ofInt ofBits
+every-root = (
+  at-four,
+  (refl, (refl, (refl, tt))),
+  (refl, (refl, (refl, tt))),
+  (refl, (refl, (refl, tt))),
+  (refl, (refl, (refl, tt))),
+  (refl, (refl, (refl, tt))),
+  (refl, (refl, (refl, tt))),
 )
 
 pub every-text : EveryText

@@ -222,13 +222,13 @@ module _ {N : Numbers} (M : Machine N) where
   both-ok false left right p q alone e =
       edge-ok left p (right ∷ []) (edge right q) 1 e (λ e′. rw append-nil at (edge-ok right q [] [] 0 e′ (λ _. no-edges 0)))
 
--- what holds of 0, 7 and 8 holds of an operation that uses the left operand alone
-pub by-one-sided : (P : ℕ → Type 0) (op : ℕ) → P 0 → P 7 → P 8 → one-sided op ≡ true → P op
-by-one-sided P op p q r = by-or _ _ (by-or _ _ (λ t. rw (eqb-true op 0 t) p) (λ t. rw (eqb-true op 7 t) q)) (λ t. rw (eqb-true op 8 t) r)
+-- what holds of 0, 7, 8 and 10 holds of an operation that uses the left operand alone
+pub by-one-sided : (P : ℕ → Type 0) (op : ℕ) → P 0 → P 7 → P 8 → P 10 → one-sided op ≡ true → P op
+by-one-sided P op p q r s = by-or _ _ (by-or _ _ (by-or _ _ (λ t. rw (eqb-true op 0 t) p) (λ t. rw (eqb-true op 7 t) q)) (λ t. rw (eqb-true op 8 t) r)) (λ t. rw (eqb-true op 10 t) s)
 
 -- such an operation has no right partial
 pub alone : {N : Numbers} (op : ℕ) (l r : N .Number) (g : Given N) → one-sided op ≡ true → apply op l r g .right ≡ none
-alone op l r g = by-one-sided (λ op. apply op l r g .right ≡ none) op refl refl refl
+alone op l r g = by-one-sided (λ op. apply op l r g .right ≡ none) op refl refl refl refl
 
 -- ---- what a step leaves
 

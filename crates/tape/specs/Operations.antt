@@ -39,9 +39,12 @@ SUPPLIED-ONE = 8
 abbrev pub SUPPLIED-TWO : ℕ
 SUPPLIED-TWO = 9
 
+abbrev pub SQRT : ℕ
+SQRT = 10
+
 -- numbers from here to 255 are refused
 abbrev pub UNKNOWN : ℕ
-UNKNOWN = 10
+UNKNOWN = 11
 
 -- what the host supplies for operations 8 and 9
 pub record Given (N : Numbers) : Type 0 where
@@ -58,11 +61,12 @@ pub record Row (N : Numbers) : Type 0 where
 abbrev pub row : {N : Numbers} → N .Number → Option (N .Number) → Option (N .Number) → Row N
 row v p q = record { value = v; left = p; right = q }
 
--- rows 0 to 9
+-- rows 0 to 10
 abbrev pub rows : {N : Numbers} → N .Number → N .Number → Given N → List (Row N)
 rows {N} l r g =
     let O = N .nought in
     let I = N .one in
+    let s = N .root l in
     row l none none
     ∷ row (N .plus l r) (some I) (some I)
     ∷ row (N .minus l r) (some I) (some (N .minus O I))
@@ -73,6 +77,7 @@ rows {N} l r g =
     ∷ row (N .minus O l) (some (N .minus O I)) none
     ∷ row (g .value) (some (g .left)) none
     ∷ row (g .value) (some (g .left)) (some (g .right))
+    ∷ row s (some (N .over (N .half) s)) none
     ∷ []
 
 abbrev pub as-stored : (N : Numbers) → Option (N .Number) → Option (N .Number)
@@ -88,9 +93,9 @@ apply {N} op l r g =
 abbrev pub known : ℕ → Bool
 known op = ltb op UNKNOWN
 
--- operations 0, 7 and 8 use the left operand alone
+-- operations 0, 7, 8 and 10 use the left operand alone
 abbrev pub one-sided : ℕ → Bool
-one-sided op = eqb op LEAF || eqb op NEGATE || eqb op SUPPLIED-ONE
+one-sided op = eqb op LEAF || eqb op NEGATE || eqb op SUPPLIED-ONE || eqb op SQRT
 
 abbrev pub used : {A : Type 0} → ℕ → A → A → List A
 used op left right = cond (one-sided op) (left ∷ []) (left ∷ right ∷ [])

@@ -7,13 +7,13 @@ use mathlib.Core.Path.{_≡_}
 use mathlib.Core.Bool.{true, false}
 use mathlib.Core.List.{List, [], _∷_, _++_}
 use lib.IntN.{pos}
-use lib.Ieee.{Float, nan, inf, binary64, ofInt, neg}
+use lib.Ieee.{Float, nan, inf, binary64, ofBits, ofInt, neg}
 use lib.ListN.{replicate}
 use Rattle.text.specs.Numerals.{bytes}
 use Rattle.tape.specs.Numbers.{floats}
 use Rattle.tape.specs.Machine.{Arrays, Machine, arrays, machine, most-nodes, slot, state}
 use Rattle.tape.specs.Handles.{Operand, plain, node}
-use Rattle.tape.specs.Operations.{Given, LEAF, ADD, MULTIPLY, MAX, MIN, SUPPLIED-ONE, SUPPLIED-TWO}
+use Rattle.tape.specs.Operations.{Given, LEAF, ADD, MULTIPLY, MAX, MIN, SUPPLIED-ONE, SUPPLIED-TWO, SQRT}
 use Rattle.tape.specs.Listing.{header, listing}
 use Rattle.tape.specs.Answers.{Answer, refused, done, read-value, recorded, counted}
 use Rattle.tape.specs.Calls.{Pass, Call, move, start, set-mark, rewind-to-mark, operate, clear, pass, backward, backward-to-mark, backward-mark-to-start, propagate-to-mark, propagate-mark-to-start, value-of, adjoint-of, is-live, list}
@@ -371,6 +371,26 @@ EveryChoice =
     × Holds (with-nan MIN (float 1) nan)
     × Holds (with-nan MAX nan (float 1))
     × Holds (with-nan MIN nan (float 1))
+
+-- the square root of leaf x, with a right operand that is not live and not used: value v, and partial p on its one edge
+abbrev pub rooted : Float → Float → Float → Row
+rooted x v p = record {
+  before = fresh (sevens 2);
+  calls = move start ∷ leaf x ∷ binary SQRT (node-at 0) (node (handle 1 9)) ∷ [];
+  answers = done ∷ recorded x (first 0) ∷ recorded v (first 1) ∷ [];
+  sights = edge-counts (0 ∷ 1 ∷ []) ∷ partials (float 7 ∷ float 7 ∷ p ∷ float 7 ∷ []) ∷ [];
+}
+
+-- the root of 4 has partial 0.25; then either zero, +infinity, and what has no root. Proved in proofs/Rows.antt
+abbrev pub EveryRoot : Type 0
+EveryRoot =
+    Holds (rooted (float 4) (float 2) (ofBits binary64 0x3fd0_0000_0000_0000))
+    × Holds (rooted (float 0) (float 0) (inf false))
+    × Holds (rooted (neg (float 0)) (neg (float 0)) (inf true))
+    × Holds (rooted (inf false) (inf false) (float 0))
+    × Holds (rooted nan nan nan)
+    × Holds (rooted (neg (float 1)) nan nan)
+    × Holds (rooted (inf true) nan nan)
 
 -- the header's numbers, where a listing of the rows has too few digits to tell. Proved in proofs/Rows.antt
 abbrev pub EveryText : Type 0

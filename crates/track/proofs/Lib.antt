@@ -1,4 +1,5 @@
 pub mod Totals
+pub mod Sums
 pub mod Searched
 pub mod Lengths
 pub mod Covered

@@ -1,5 +1,5 @@
 -- The statements of specs/, each with its proof.
-use Rattle.track.specs.Rows.{EveryRow, EveryRoot}
+use Rattle.track.specs.Rows.{EveryRow}
 use Rattle.track.specs.Laws.{EachOnce, Middle, Covered}
 use Rattle.track.proofs.Rows as rows
 use Rattle.track.proofs.EachOnce as of-lengths
@@ -8,9 +8,6 @@ use Rattle.track.proofs.Covered as of-parts
 
 every-row : EveryRow
 every-row = rows.every-row
-
-every-root : EveryRoot
-every-root = rows.every-root
 
 each-once : EachOnce
 each-once = of-lengths.each-once

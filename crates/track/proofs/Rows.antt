@@ -1,15 +1,13 @@
--- Every row and every root: both sides are computed.
+-- Every row: both sides are computed.
 use mathlib.Core.Path.{refl}
-use lib.Ieee.{sub, mul, div, lt, le, ofInt, ofBits}
-use Rattle.track.specs.Cells.{nearest-cells, root, clip, weighed, off}
-use Rattle.track.specs.Index.{below, at-most, middle, median, apart}
-use Rattle.track.specs.Rows.{EveryRow, EveryRoot}
-
-pub every-root : EveryRoot
-every-root = refl
+use lib.Ieee.{add, sub, mul, div, lt, le, ofInt, ofBits, round}
+use Rattle.root.specs.Value.{root as square-root}
+use Rattle.track.specs.Cells.{nearest-cells, root, clip, weighed, off, square-if-pulling}
+use Rattle.track.specs.Index.{below, at-most, middle, median, apart, square-if-counted}
+use Rattle.track.specs.Rows.{EveryRow}
 
 pub every-row : EveryRow
-unfolding nearest-cells root clip weighed off below at-most middle median apart sub mul div lt le ofInt ofBits
+unfolding nearest-cells root clip weighed off square-if-pulling below at-most middle median apart square-if-counted add sub mul div lt le ofInt ofBits square-root round
 every-row = record {
   ticks-of-a-cell = refl;
   halfway-between = refl;
@@ -20,12 +18,15 @@ every-row = record {
   most-cells = refl;
   a-quarter = refl;
   past-a-quarter = refl;
+  two-squares = refl;
   of-three = refl;
   of-two = refl;
   of-none = refl;
   not-apart = refl;
   above = refl;
   below = refl;
+  ticks-of-a-turn = refl;
+  two-times = refl;
   two-parts = refl;
   whole-part = refl;
   last-part = refl;

@@ -1,11 +1,11 @@
 -- An interval in bit cells, and what it weighs. A float is written as its bits, with what it is beside it.
-use Prim.Native.Nat.{ℕ, suc, _-_, _*_}
+use Prim.Native.Nat.{ℕ, suc, _*_}
 use mathlib.Core.Bool.{Bool, not, cond}
 use mathlib.Core.List.{List, [], _∷_}
 use lib.Dec.{eqb}
 use lib.IntN.{pos}
-use lib.ListN.{getD}
 use lib.Ieee.{Float, binary64, sub, mul, div, lt, le, ofInt, ofBits}
+use Rattle.root.specs.Value.{root as square-root}
 use Rattle.track.specs.declared.cells.Weighed.{Weighed}
 
 -- the float of a whole number
@@ -35,15 +35,9 @@ first-above seen t (b ∷ bs) = cond (lt t (mul binary64 (ofBits binary64 b) see
 unfoldable pub nearest-cells : Float → ℕ → ℕ
 nearest-cells seen ticks = first-above seen (in-cells ticks) boundaries
 
--- the roots of 1 to 8, each to the nearest double (`EveryRoot`)
-abbrev pub roots : List ℕ
-roots =
-    0x3ff0_0000_0000_0000 ∷ 0x3ff6_a09e_667f_3bcd ∷ 0x3ffb_b67a_e858_4caa ∷ 0x4000_0000_0000_0000
-    ∷ 0x4001_e377_9b97_f4a8 ∷ 0x4003_988e_1409_212e ∷ 0x4005_2a7f_a9d2_f8ea ∷ 0x4006_a09e_667f_3bcd ∷ []
-
 -- the root of n cells
 unfoldable pub root : ℕ → Float
-root n = ofBits binary64 (getD roots (n - 1) 0)
+root n = square-root (float n)
 
 -- a quarter of a nominal cell, squared, over n cells
 unfoldable pub clip : ℕ → Float
@@ -73,3 +67,9 @@ one-if-off seen ticks = cond (off seen ticks) 1 0
 -- the cells of an interval that is not off, and so pulls
 abbrev pub cells-if-pulling : Float → ℕ → ℕ
 cells-if-pulling seen ticks = cond (off seen ticks) 0 (nearest-cells seen ticks)
+
+-- what an interval is from its cells, squared, in nominal cells; 0 for one that is off
+unfoldable pub square-if-pulling : Float → ℕ → Float
+square-if-pulling seen ticks =
+    let x = sub binary64 (in-cells ticks) (mul binary64 (float (nearest-cells seen ticks)) seen) in
+    cond (off seen ticks) (ofBits binary64 0) (mul binary64 x x)

@@ -3,6 +3,8 @@ use Prim.Native.Nat.{ℕ, _+_, _-_, _/_}
 use mathlib.Core.Bool.{Bool, _&&_, cond}
 use mathlib.Core.List.{List, [], _∷_}
 use lib.Dec.{leb, ltb}
+use lib.IntN.{pos}
+use lib.Ieee.{Float, binary64, sub, mul, div, ofInt, ofBits}
 use lib.ListN.{length}
 use Rattle.track.specs.Total.{total}
 
@@ -34,3 +36,13 @@ median xs = first (middle xs) xs
 -- more than 1/64 of a nominal turn lies between the two; the difference that would be below 0 is 0
 unfoldable pub apart : ℕ → ℕ → Bool
 apart time median = ltb 125000 ((time - median) + (median - time))
+
+-- 8,000,000.0, the ticks of a nominal turn
+abbrev pub nominal-turn : Float
+nominal-turn = ofBits binary64 0x415e_8480_0000_0000
+
+-- what a time is from `turn`, squared, in nominal turns; 0 for one that is apart from the median
+unfoldable pub square-if-counted : ℕ → Float → ℕ → Float
+square-if-counted median turn time =
+    let x = sub binary64 (div binary64 (ofInt binary64 (pos time)) nominal-turn) turn in
+    cond (apart time median) (ofBits binary64 0) (mul binary64 x x)

@@ -1,6 +1,5 @@
 -- Times by counting. Read `Cells`, what an interval is in cells and weighs; `Index`, the median of index times; `Parts`,
--- how a turn is cut. `Total` has the one sum that they share.
--- `Rows` has worked rows, and that the table of roots is right; `Laws` what holds of every list.
+-- how a turn is cut. `Total` has the sums that they share. `Rows` has worked rows, `Laws` what holds of every list.
 pub mod Total
 pub mod Cells
 pub mod Index

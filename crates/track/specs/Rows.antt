@@ -1,29 +1,12 @@
--- What the rules come to: worked rows, and that the table of roots is right. Both are proved in proofs/Rows.antt, by
--- computation.
-use Prim.Native.Nat.{ℕ, suc, _+_, _-_, _*_, _/_, _%_, _^_}
+-- What the rules come to: worked rows, proved in proofs/Rows.antt by computation.
 use mathlib.Core.Path.{_≡_}
-use mathlib.Core.Bool.{Bool, true, false, _&&_}
-use mathlib.Core.List.{List, [], _∷_, map}
-use lib.Dec.{ltb}
+use mathlib.Core.Bool.{true, false}
+use mathlib.Core.List.{[], _∷_, map}
 use lib.Ieee.{Float, binary64, div, ofBits}
-use Rattle.track.specs.Cells.{float, cell, boundaries, nearest-cells, roots, off}
-use Rattle.track.specs.Index.{median, apart}
+use Rattle.track.specs.Total.{float-total}
+use Rattle.track.specs.Cells.{float, cell, boundaries, nearest-cells, off, square-if-pulling}
+use Rattle.track.specs.Index.{median, apart, nominal-turn, square-if-counted}
 use Rattle.track.specs.Parts.{part-count, part}
-
--- the pattern's float is m / 2 ^ k; half a place below it the square is below n, and half a place above it above n
-abbrev pub nearest-root : ℕ → ℕ → Bool
-nearest-root n pattern =
-    let m = pattern % 2 ^ 52 + 2 ^ 52 in
-    let k = 1075 - pattern / 2 ^ 52 in
-    ltb ((2 * m - 1) ^ 2) (n * (2 * 2 ^ k) ^ 2) && ltb (n * (2 * 2 ^ k) ^ 2) ((2 * m + 1) ^ 2)
-
--- the patterns are those of the roots of n, of n + 1, and so on
-abbrev pub roots-from : ℕ → List ℕ → Bool
-roots-from n [] = true
-roots-from n (pattern ∷ patterns) = nearest-root n pattern && roots-from (suc n) patterns
-
-abbrev pub EveryRoot : Type 0
-EveryRoot = roots-from 1 roots ≡ true
 
 -- cells as long as they nominally are
 abbrev pub one : Float
@@ -40,12 +23,17 @@ pub record EveryRow : Type 0 where
   -- 4 cells and exactly a quarter; and a tick more
   pub a-quarter : off one 340 ≡ false
   pub past-a-quarter : off one 341 ≡ true
+  -- a sixteenth of a cell more than 2, an eighth less than 4, and one that is off
+  pub two-squares : float-total (square-if-pulling one) (165 ∷ 310 ∷ 341 ∷ []) ≡ div binary64 (float 5) (float 256)
   pub of-three : median (5 ∷ 1 ∷ 4 ∷ []) ≡ 4
   pub of-two : median (8700000 ∷ 8000000 ∷ []) ≡ 8000000
   pub of-none : median [] ≡ 0
   pub not-apart : apart 8125000 8000000 ≡ false
   pub above : apart 8125001 8000000 ≡ true
   pub below : apart 7874999 8000000 ≡ true
+  pub ticks-of-a-turn : nominal-turn ≡ float 8000000
+  -- 1/256 of a turn more, as much less, and one that is apart
+  pub two-times : float-total (square-if-counted 8000000 one) (8031250 ∷ 7968750 ∷ 8700000 ∷ []) ≡ div binary64 (float 2) (float 65536)
   pub two-parts : part-count 1025 ≡ 2
   pub whole-part : part 1025 0 ≡ record { from = 0; end = 1024 }
   pub last-part : part 1025 1 ≡ record { from = 1024; end = 1025 }

@@ -2,8 +2,8 @@
 // nominal cells of 80 ticks, which are 2,000 ns.
 ghost use Prim.Native.Nat.{_≤_};
 ghost use mathlib.Core.Path.{_≡_};
-ghost use Rattle.track.specs.Cells.{boundaries, first-above, nearest-cells, root as Cells·root, clip as Cells·clip, weighed, off, of-length, one-if-off, cells-if-pulling};
-ghost use Rattle.track.specs.Total.{total};
+ghost use Rattle.track.specs.Cells.{boundaries, first-above, nearest-cells, root as Cells·root, clip as Cells·clip, weighed, off, of-length, one-if-off, cells-if-pulling, square-if-pulling};
+ghost use Rattle.track.specs.Total.{total, float-total};
 
 // An interval as it is recorded: the square of scaled - seen * root is what it is off, squared, over its cells; and the
 // clip is a quarter of a nominal cell, squared, over its cells.
@@ -81,7 +81,29 @@ pub fn pulling_cells(ticks: &[u32], seen: f64) -> usize
     cells
 }
 
+// How far the intervals that pull are from their cells, in nominal cells: the squares, added from the first on.
+pub fn pulling_squares(ticks: &[u32], seen: f64) -> f64
+    ensures { λ r. ⌜ r ≡ float-total (square-if-pulling seen) (now (ticks .entry)) ⌝ }
+{
+    let mut sum = 0.0;
+    for i in 0..ticks.len() {
+        sum += square_if_pulling(ticks[i], seen);
+    }
+    sum
+}
+
 const CELL: f64 = 80.0;
+
+fn square_if_pulling(ticks: u32, seen: f64) -> f64
+    ensures { λ r. ⌜ r ≡ square-if-pulling seen ticks ⌝ }
+{
+    if is_off(ticks, seen) {
+        return 0.0;
+    }
+    let cells = nearest_cells(ticks, seen);
+    let x = ticks as f64 / CELL - std::num::nearest_u64_to_f64(cells as u64) * seen;
+    x * x
+}
 
 fn nearest(t: f64, seen: f64) -> usize
     ensures { λ r. ⌜ r ≡ first-above seen t boundaries ⌝ }

@@ -1,6 +1,10 @@
 // Index times, of each turn one.
 ghost use mathlib.Core.Path.{_≡_};
-ghost use Rattle.track.specs.Index.{median as Index·median, apart, below, at-most, middle};
+ghost use Rattle.track.specs.Index.{median as Index·median, apart, below, at-most, middle, square-if-counted};
+ghost use Rattle.track.specs.Total.{float-total};
+
+// A turn at 300 rpm, in ticks of 25 ns.
+pub const TURN: f64 = 8_000_000.0;
 
 // The middle one of the times, of an even number the lower of the two; 0 where there is none.
 pub fn median(times: &[u32]) -> u32
@@ -24,7 +28,29 @@ pub fn is_apart(time: u32, median: u32) -> bool
     time - median > APART
 }
 
-// In ticks of 25 ns, of which a turn at 300 rpm has 8,000,000.
+// How far the times that are not apart from the median are from `turn`, in nominal turns: the squares, added from the
+// first on.
+pub fn index_squares(times: &[u32], median: u32, turn: f64) -> f64
+    ensures { λ r. ⌜ r ≡ float-total (square-if-counted median turn) (now (times .entry)) ⌝ }
+{
+    let mut sum = 0.0;
+    for i in 0..times.len() {
+        sum += square_if_counted(times[i], median, turn);
+    }
+    sum
+}
+
+fn square_if_counted(time: u32, median: u32, turn: f64) -> f64
+    ensures { λ r. ⌜ r ≡ square-if-counted median turn time ⌝ }
+{
+    if is_apart(time, median) {
+        return 0.0;
+    }
+    let x = time as f64 / TURN - turn;
+    x * x
+}
+
+// 1/64 of a turn, in ticks.
 const APART: u32 = 125_000;
 
 // Fewer than half, rounded up, are below it, and so many at least are not above it.

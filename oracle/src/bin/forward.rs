@@ -140,6 +140,7 @@ where
         ("div_into", WithPlain(|x, k| (k / x).words())),
         ("compare", Two(|a, b| compare(&a, &b))),
         ("compare_f64", WithPlain(|x, k| compare(&x, &k))),
+        ("sqrt", One(|x| Scalar::sqrt(x).words())),
     ]
 }
 

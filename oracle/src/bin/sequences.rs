@@ -68,13 +68,15 @@ impl<'a> Draft<'a> {
         self.detached.extend(detached);
     }
 
-    /// An operation and its operands, drawn again where the Rust's max and min depart.
+    /// An operation and its operands, drawn again where the Rust's max and min depart, and at most roots of negative
+    /// numbers.
     fn recording(&mut self) -> (&'a Kind, Vec<Given>) {
         loop {
             let kind = &self.kinds[self.random.below(self.kinds.len() as u64) as usize];
             let given = self.operands(kind.operands());
-            let worth = |at: usize| self.session.worth(given[at]);
-            if !departs(kind.name, worth(0), worth(given.len() - 1)) {
+            let l = self.session.worth(given[0]);
+            let r = self.session.worth(given[given.len() - 1]);
+            if !departs(kind.name, l, r) && !self.temper.leaves_out(self.random, kind.name, l) {
                 return (kind, given);
             }
         }

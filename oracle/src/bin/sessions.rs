@@ -121,13 +121,15 @@ impl Draft<'_> {
         }
     }
 
-    /// Left out are the inputs where the Rust's max and min depart, and in a calm session what would
-    /// make large numbers.
-    fn suits(&self, operation: usize, given: &[Given]) -> bool {
+    /// Left out are the inputs where the Rust's max and min depart, most roots of negative numbers, and in a calm session
+    /// what would make large numbers.
+    fn suits(&mut self, operation: usize, given: &[Given]) -> bool {
         let kind = &self.kinds[operation];
         let l = self.session.worth(given[0]);
         let r = self.session.worth(given[given.len() - 1]);
-        !departs(kind.name, l, r) && (self.temper.infinite || is_calm(kind, l, r))
+        !departs(kind.name, l, r)
+            && !self.temper.leaves_out(self.random, kind.name, l)
+            && (self.temper.infinite || is_calm(kind, l, r))
     }
 
     fn record(&mut self, operation: usize, given: &[Given]) -> Deed {

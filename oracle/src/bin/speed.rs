@@ -1,5 +1,5 @@
-//! Records, walks and rewinds a full tape as often as it is told, as the program `speed` of the port
-//! does, on the same plans of operands: a line of standard input is `PLAN TIMES`.
+//! Records, walks and rewinds a full tape as often as it is told, or takes as many square roots, as the
+//! program `speed` of the port does, on the same plans: a line of standard input is `PLAN TIMES`.
 
 use std::io::{self, BufRead};
 
@@ -16,6 +16,7 @@ const BLOCK: usize = 16;
 const LEAVES: usize = BLOCK - 1;
 /// The place of no node: the plain number stands in its stead.
 const PLAIN: usize = NODES;
+const SEED: u64 = 0x9e37_79b9_7f4a_7c15;
 
 /// Where operands lie: anywhere in the node's own block, anywhere below the node, or next before it.
 #[derive(Clone, Copy)]
@@ -49,7 +50,7 @@ fn part(draw: u64, shift: u32, end: usize) -> usize {
 fn lay_out(reach: Reach) -> Vec<Recording> {
     let mut worth = Vec::new();
     let mut plan = Vec::new();
-    let mut draw = 0x9e37_79b9_7f4a_7c15;
+    let mut draw = SEED;
     for i in 0..NODES {
         draw = next(draw);
         let (mut op, left, right, plain) = planned(reach, i, draw);
@@ -177,16 +178,54 @@ fn run(name: &str, reach: Reach, times: u64) {
     println!("{name} times={times} nodes={NODES} edges={edges} values={values:016x} adjoints={adjoints:016x}");
 }
 
+/// What is drawn for square roots: doubles of every exponent, subnormals of every length, or the doubles again, of which
+/// no root is taken.
+#[derive(Clone, Copy)]
+enum Sort {
+    Doubles,
+    Subnormals,
+    Idle,
+}
+
+/// The pattern of a double that is positive and finite.
+fn pattern(sort: Sort, draw: u64) -> u64 {
+    match sort {
+        Sort::Doubles | Sort::Idle => draw % 0x7ff0_0000_0000_0000,
+        Sort::Subnormals => 1 + (draw >> 12 >> (draw % 52)) % 0x10_0000_0000_0000,
+    }
+}
+
+fn root(sort: Sort, x: f64) -> f64 {
+    match sort {
+        Sort::Doubles | Sort::Subnormals => x.sqrt(),
+        Sort::Idle => x,
+    }
+}
+
+fn take_roots(name: &str, sort: Sort, times: u64) {
+    let mut draw = SEED;
+    let mut digest = SEED;
+    for _ in 0..times * NODES as u64 {
+        draw = next(draw);
+        let x = f64::from_bits(pattern(sort, draw));
+        digest = next(digest ^ root(sort, x).to_bits());
+    }
+    println!("{name} times={times} digest={digest:016x}");
+}
+
 fn main() {
     for line in io::stdin().lock().lines() {
         let line = line.expect("the orders are text");
         let (name, times) = line.split_once(' ').expect("an order is PLAN TIMES");
-        let reach = match name {
-            "near" => Reach::Near,
-            "anywhere" => Reach::Anywhere,
-            "regular" => Reach::Regular,
+        let times = times.parse().expect("a number of rounds");
+        match name {
+            "near" => run(name, Reach::Near, times),
+            "anywhere" => run(name, Reach::Anywhere, times),
+            "regular" => run(name, Reach::Regular, times),
+            "doubles" => take_roots(name, Sort::Doubles, times),
+            "subnormals" => take_roots(name, Sort::Subnormals, times),
+            "idle" => take_roots(name, Sort::Idle, times),
             _ => panic!("no plan {name}"),
-        };
-        run(name, reach, times.parse().expect("a number of rounds"));
+        }
     }
 }

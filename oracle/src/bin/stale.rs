@@ -85,7 +85,7 @@ fn print_use(story: Story, kinds: &[Kind], made: Use) {
 /// The operations take turns: each is met as often as the others.
 fn print_story(story: Story, kinds: &[Kind], turn: usize) {
     let pairs = [1, 2, 3, 4, 5, 6];
-    let one = [0, 7][turn % 2];
+    let one = [0, 7, 8][turn % 3];
     let two = |k: usize| pairs[(turn + k) % pairs.len()];
     for made in [
         Use::Left(one),
