@@ -7,6 +7,7 @@ mod refusals;
 mod report;
 mod session;
 mod slices;
+mod turns;
 
 use filling::TOO_MANY;
 use tape::MOST_EDGES;
@@ -22,6 +23,7 @@ fn main() {
     at(MOST_NODES);
     at(TOO_MANY);
     refusals::run();
+    turns::run();
 }
 
 // What is run on a tape of capacity n.
