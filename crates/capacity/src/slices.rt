@@ -314,6 +314,7 @@ fn slice(
 impl Cut {
     fn with(self, nodes: usize, edges: u32, left: usize, after: Tape) -> Cut {
         let end = left_after(self.left, nodes);
+        // By the promise of `walking` itself.
         let expected = self.tape.walking(Span { from: 0, end });
         let in_step = (left == end) & is_state(after, expected);
         Cut {

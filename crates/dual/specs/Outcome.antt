@@ -1,5 +1,5 @@
--- What reads, clearing and passes answer, in the machine's terms. Opening a pass and taking a slice hand back the state;
--- no other of these calls changes it, so none hands it back: what it leaves is the state it was given, with the arrays.
+-- What reads, clearing and passes answer, in the machine's terms. Opening a pass and taking a slice hand back the state.
+-- The other calls do not change it and do not hand it back: what one leaves is the state it was given, with the arrays.
 use mathlib.Core.Path.{_≡_}
 use Rattle.tape.specs.Numbers.{floats}
 use Rattle.tape.specs.Machine.{Arrays, Machine, machine}

@@ -56,8 +56,8 @@ pub fn value(
     }
 }
 
-// The adjoint of the node behind a handle, while a walk is open as it stands then. Refuses 1, 3 for a handle that is not
-// live, and 4 for a number.
+// The adjoint of the node behind a handle; while a walk is open, as the slices so far have left it. Refuses 1, 3 for a
+// handle that is not live, and 4 for a number.
 pub fn adjoint(
     tape: Tape,
     value: &[f64],

@@ -30,7 +30,7 @@ listed = 1 ∷ 2 ∷ 3 ∷ 4 ∷ 5 ∷ 6 ∷ 7 ∷ 8 ∷ 12 ∷ 13 ∷ []
 
 -- Proved in proofs/Answered.antt
 pub record Demand1 : Type 1 where
-  -- if a row of the table refuses, the first one's number is returned, value +0.0, no handle, count 0 and no node left,
+  -- if a row of the table refuses, the first one's number is returned, value +0.0, no handle, count 0 and nodes left 0,
   -- and the machine is as it was
   pub refused : {N : Numbers} (c : Call N) (M : Machine N) (r : Refusal) → refusal-of c M ≡ some r
       → step c M ≡ (answer (number r) (N .nought) none 0 0, M)

@@ -24,7 +24,7 @@ use Rattle.tape.specs.declared.admission.Caller.the-variants as caller
 use Rattle.tape.specs.declared.tape.Span.{Span}
 use Rattle.tape.specs.declared.tape.Walk.{Walk}
 use Rattle.tape.specs.declared.tape.Walk.the-variants.{Closed, Open}
-use Rattle.tape.proofs.Passes.{Accepted, accepted, passes, answers, walk-cut, visited-cut, ends, left-ends, left-in-order, length-seeded, length-walked, carried-number}
+use Rattle.tape.proofs.Passes.{Accepted, accepted, passes, answers, walk-cut, visited-cut, ends, left-ends, left-in-order, length-seeded, length-walked}
 use Rattle.tape.proofs.Ranges.{length-indexes, nothing-left, indexes-cut, all-append}
 use Rattle.tape.proofs.Steps.{Passed, by-refusal, shape, closed, all-live, sound-range}
 use Rattle.tape.proofs.Tests.{by-test, walk-fit-so, walk-fit, Fit, fit, refits}
@@ -156,11 +156,8 @@ module _ {N : Numbers} where
         let left : visits-left L ≡ step (pass p) M .0 .count = ap (λ x. visits-left (x .1)) (opening .carries) ∙ opening-visits p M ∙ ap (λ x. x .0 .count) (sym (in-one-go .carries)) in
         omega (arith, first, none-left, left, slices-visit sizes L (u .1))
 
-    pub not-refused : step (pass p) M .0 .number ≡ 0
-    not-refused = rw (in-one-go .carries) (carried-number (pass p) M)
-
 pub any-cutting : AnyCutting
-any-cutting = record { unrefused = λ p sizes M. not-refused p sizes M; machine = λ p sizes M. same-machine p sizes M; visits = λ p sizes M. same-visits p sizes M }
+any-cutting = record { machine = λ p sizes M. same-machine p sizes M; visits = λ p sizes M. same-visits p sizes M }
 
 -- ---- slices of one size
 

@@ -33,7 +33,7 @@ pub record Answer (N : Numbers) : Type 0 where
 abbrev pub answer : {N : Numbers} → ℕ → N .Number → Option Handle → ℕ → ℕ → Answer N
 answer k v h n left = record { number = k; value = v; handle = h; count = n; left = left }
 
--- a refusal returns its number, value +0.0, no handle, count 0 and no node left
+-- a refusal returns its number, value +0.0, no handle, count 0 and nodes left 0
 abbrev pub refused : {N : Numbers} → Refusal → Answer N
 refused {N} r = answer (number r) (N .nought) none 0 0
 

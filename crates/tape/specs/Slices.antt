@@ -69,11 +69,9 @@ pub record Turns : Type 1 where
       → M .state .length < s .end
       → step c M ≡ (refused Misshapen, M)
 
--- Any cutting: where no call is refused and the walk is over after the last, the pass in one go is not refused; the
--- machine is the one that it leaves, and the edges visited are as many. Proved in proofs/Slices.antt
+-- Any cutting: where no call is refused and the walk is over after the last, the machine is the one that the pass in one
+-- go leaves, and the edges visited are as many. Proved in proofs/Slices.antt
 pub record AnyCutting : Type 1 where
-  pub unrefused : {N : Numbers} (p : Pass N) (sizes : List ℕ) (M : Machine N) → let cs = in-slices p sizes in
-      Unrefused (run cs M .0) → Over (after cs M) → step (pass p) M .0 .number ≡ 0
   pub machine : {N : Numbers} (p : Pass N) (sizes : List ℕ) (M : Machine N) → let cs = in-slices p sizes in
       Unrefused (run cs M .0) → Over (after cs M) → after cs M ≡ step (pass p) M .1
   pub visits : {N : Numbers} (p : Pass N) (sizes : List ℕ) (M : Machine N) → let cs = in-slices p sizes in

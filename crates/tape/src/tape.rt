@@ -122,7 +122,7 @@ impl Tape {
             mark: self.mark,
             active: self.active,
             next: self.next,
-            walk: left.walk(),
+            walk: left.left_open(),
         }
     }
 
@@ -139,7 +139,7 @@ impl Tape {
 
 impl Span {
     // A walk of these nodes, which is over if they are none.
-    fn walk(self) -> Walk
+    fn left_open(self) -> Walk
         ensures { λ x. ⌜ x ≡ walk-left self ⌝ }
     {
         if self.from < self.end {

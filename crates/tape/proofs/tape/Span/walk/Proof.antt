@@ -1,7 +1,0 @@
--- By the test, on either way.
-use borrow.Author.Tests.{lt-ltb, le-ltb}
-use Rattle.tape.proofs.tape.Span.walk.Statement.{statement}
-use Rattle.tape.proofs.tape.Span.walk.Tie as tie
-
-pub walk-spec : {M : Type 1} → statement M
-walk-spec = tie.close (tie.spec (λ c. rw (lt-ltb _ _ (c .if1 .taken))) (λ c. rw (le-ltb _ _ (c .if1 .left))))
