@@ -2,7 +2,7 @@
 use crate::digits;
 use crate::lines;
 
-// More bytes than a word has that is not the name of a file.
+// The longest word that is not the name of a file, a number of 8 digits.
 const LONGEST: usize = 8;
 
 pub(crate) fn is_verbose() -> bool {

@@ -58,7 +58,8 @@ pub(crate) fn pass(
     )
 }
 
-// A slice takes a node at least, so that a pass has no more slices than a tape has nodes.
+// The motor can be served on each turn of the loop. A slice takes a node at least, so that a pass has no more slices
+// than a tape has nodes.
 fn take_slices(
     opened: Cut,
     value: &[f64],
