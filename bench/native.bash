@@ -49,7 +49,7 @@ build_here() {
 
 compile() { # CLANG MODULE PROGRAM
     "$1" --target=aarch64-unknown-linux-gnu -O3 -ffp-contract=off -fPIE -c -x ir "$2" -o "$3.o"
-    cc "$3.o" -o "$3"
+    cc -O2 "$3.o" "$bench/os.c" -o "$3"
 }
 
 # A kit whose clang keeps the module that it is given, and else is the kit: stand_in_kit TOOLS COPY

@@ -81,7 +81,7 @@ impl Filled {
     }
 }
 
-fn earlier(first: Handle, handle: Handle) -> Handle {
+pub(crate) fn earlier(first: Handle, handle: Handle) -> Handle {
     if first.serial == 0 { handle } else { first }
 }
 

@@ -1,14 +1,19 @@
 // Runs tapes of capacity 0, 1, 65,535 and 65,536 on real arrays and writes down what the calls answer: the row of
-// document 01's edges that is not in the proved table. Then the refusals that no other program meets.
+// document 01's edges that is not in the proved table. Then a pass in slices on a full tape, and the refusals that no
+// other program meets.
 mod filling;
+mod powers;
 mod refusals;
 mod report;
 mod session;
+mod slices;
+mod turns;
 
 use filling::TOO_MANY;
 use tape::MOST_EDGES;
 use tape::MOST_NODES;
 ghost use Prim.Native.Nat.{_≤_};
+ghost use lib.ListN.{length};
 
 const SLOTS: usize = MOST_EDGES * TOO_MANY;
 
@@ -18,9 +23,10 @@ fn main() {
     at(MOST_NODES);
     at(TOO_MANY);
     refusals::run();
+    turns::run();
 }
 
-// A session on a tape of capacity n.
+// What is run on a tape of capacity n.
 fn at(n: usize)
     requires { do ⌜ n ≤ (← ⟦TOO_MANY⟧) ⌝ }
 {
@@ -31,7 +37,7 @@ fn at(n: usize)
     let mut child = [0u16; SLOTS];
     let mut partial = [0.0; SLOTS];
     let slots = MOST_EDGES * n;
-    session::run(
+    tapes(
         &mut value[..n],
         &mut adjoint[..n],
         &mut serial[..n],
@@ -39,4 +45,19 @@ fn at(n: usize)
         &mut child[..slots],
         &mut partial[..slots],
     );
+}
+
+// One after another on the same arrays, which may hold anything.
+fn tapes(
+    value: &mut [f64],
+    adjoint: &mut [f64],
+    serial: &mut [u64],
+    count: &mut [u8],
+    child: &mut [u16],
+    partial: &mut [f64],
+)
+    requires { do ⌜ length (now value) ≤ (← ⟦TOO_MANY⟧) ⌝ }
+{
+    session::run(value, adjoint, serial, count, child, partial);
+    slices::run(value, adjoint, serial, count, child, partial);
 }

@@ -10,12 +10,14 @@ use listing::bits_of;
 use listing::listing::list;
 use tape::MOST_EDGES;
 use tape::Operand;
+use tape::Span;
 use tape::Tape;
+use tape::Walk;
 
 // The capacity, of which two nodes leave room for a third.
-const N: usize = 3;
+pub const N: usize = 3;
 
-const SLOTS: usize = MOST_EDGES * N;
+pub const SLOTS: usize = MOST_EDGES * N;
 
 // The first number that there is no operation for.
 const UNKNOWN: u8 = 11;
@@ -31,16 +33,16 @@ pub(crate) fn run() {
     walking(b"three edges", 3, 0);
     walking(b"an edge to its own node", 2, 1);
     walking(b"an edge up", 2, 2);
-    writing(b"listing", 122);
-    writing(b"listing, a byte too long", 121);
+    writing(b"listing", two_nodes(), 122);
+    writing(b"listing, a byte too long", two_nodes(), 121);
 }
 
 // Two nodes, as two leaves leave them.
-fn two_nodes() -> Tape {
+pub(crate) fn two_nodes() -> Tape {
     with_next(3, true)
 }
 
-fn with_next(next: u64, active: bool) -> Tape {
+pub(crate) fn with_next(next: u64, active: bool) -> Tape {
     let mut tape = Tape::new();
     tape.length = 2;
     tape.active = active;
@@ -49,7 +51,7 @@ fn with_next(next: u64, active: bool) -> Tape {
 }
 
 // Records an operation on plain numbers.
-fn recording(call: &[u8], tape: Tape, op: u8) {
+pub(crate) fn recording(call: &[u8], tape: Tape, op: u8) {
     let mut value = [3.0; N];
     let mut adjoint = [0.5; N];
     let mut serial = [7u64; N];
@@ -105,7 +107,7 @@ fn walking(call: &[u8], edges: u8, to: u16) {
 }
 
 // Writes the listing of the two nodes into the first `room` of 128 bytes. It is lent nothing else to write.
-fn writing(call: &[u8], room: usize) {
+pub(crate) fn writing(call: &[u8], tape: Tape, room: usize) {
     let value = [3.0; N];
     let adjoint = [0.5; N];
     let serial = [7u64; N];
@@ -118,7 +120,7 @@ fn writing(call: &[u8], room: usize) {
         return;
     }
     let answer = list(
-        two_nodes(),
+        tape,
         &value,
         &adjoint,
         &serial,
@@ -131,11 +133,38 @@ fn writing(call: &[u8], room: usize) {
     report::kept(N, call, is_bytes(&*all, b'.'));
 }
 
-fn is_state(a: Tape, b: Tape) -> bool {
-    (a.length == b.length) & (a.mark == b.mark) & (a.active == b.active) & (a.next == b.next)
+pub(crate) fn is_state(a: Tape, b: Tape) -> bool {
+    let walk = a.walk;
+    let other = b.walk;
+    (a.length == b.length)
+        & (a.mark == b.mark)
+        & (a.active == b.active)
+        & (a.next == b.next)
+        & is_walk(walk, other)
 }
 
-fn is_floats(x: &[f64; N], y: f64) -> bool {
+fn is_walk(a: Walk, b: Walk) -> bool {
+    match a {
+        Walk::Closed => is_closed(b),
+        Walk::Open(span) => is_open(b, span),
+    }
+}
+
+fn is_closed(walk: Walk) -> bool {
+    match walk {
+        Walk::Closed => true,
+        Walk::Open(_) => false,
+    }
+}
+
+fn is_open(walk: Walk, left: Span) -> bool {
+    match walk {
+        Walk::Closed => false,
+        Walk::Open(span) => (span.from == left.from) & (span.end == left.end),
+    }
+}
+
+pub(crate) fn is_floats(x: &[f64; N], y: f64) -> bool {
     is_float(x[0], y) & is_float(x[1], y) & is_float(x[2], y)
 }
 
@@ -149,7 +178,7 @@ fn is_partials(x: &[f64; SLOTS], y: f64) -> bool {
 }
 
 // By their bits: a sign or a NaN would not show otherwise.
-fn is_float(x: f64, y: f64) -> bool {
+pub(crate) fn is_float(x: f64, y: f64) -> bool {
     bits_of(x) == bits_of(y)
 }
 

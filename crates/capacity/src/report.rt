@@ -1,6 +1,12 @@
 // What is written to standard output: a line an answer, with the state that it hands back.
 use crate::filling::Filled;
+use crate::powers::Powers;
+use crate::slices::Cut;
+use dual::Cleared;
+use dual::Liveness;
 use dual::Passed;
+use dual::Read;
+use dual::Sliced;
 use expr::Recorded;
 use libc::STDOUT_FILENO;
 use listing::Listed;
@@ -9,6 +15,7 @@ use tape::Handle;
 use tape::Moved;
 use tape::Refusal;
 use tape::Tape;
+use tape::Walk;
 
 const DIGITS: usize = 16;
 
@@ -37,11 +44,51 @@ pub(crate) fn recorded(capacity: usize, call: &[u8], answer: Recorded) -> Tape {
     }
 }
 
+pub(crate) fn sliced(capacity: usize, call: &[u8], answer: Sliced) -> Tape {
+    begin(capacity, call);
+    match answer {
+        Sliced::Walked(edges, left, tape) => {
+            number(b" visited=", edges as u64);
+            number(b" left=", left as u64);
+            end(tape)
+        }
+        Sliced::Refused(refusal, tape) => refused(refusal, tape),
+    }
+}
+
 pub(crate) fn passed(capacity: usize, call: &[u8], answer: Passed) {
     begin(capacity, call);
     match answer {
         Passed::Visited(edges) => number(b" visited=", edges as u64),
-        Passed::Refused(refusal) => number(b" refused=", refusal.number() as u64),
+        Passed::Refused(refusal) => reason(refusal),
+    }
+    text(b"\n");
+}
+
+pub(crate) fn cleared(capacity: usize, call: &[u8], answer: Cleared) {
+    begin(capacity, call);
+    match answer {
+        Cleared::Done => text(b" done"),
+        Cleared::Refused(refusal) => reason(refusal),
+    }
+    text(b"\n");
+}
+
+pub(crate) fn read(capacity: usize, call: &[u8], answer: Read) {
+    begin(capacity, call);
+    match answer {
+        Read::Number(x) => float(x),
+        Read::Refused(refusal) => reason(refusal),
+    }
+    text(b"\n");
+}
+
+pub(crate) fn liveness(capacity: usize, call: &[u8], answer: Liveness) {
+    begin(capacity, call);
+    match answer {
+        Liveness::Live => text(b" live"),
+        Liveness::NotLive => text(b" not live"),
+        Liveness::Refused(refusal) => reason(refusal),
     }
     text(b"\n");
 }
@@ -50,19 +97,25 @@ pub(crate) fn listed(capacity: usize, call: &[u8], answer: Listed) {
     begin(capacity, call);
     match answer {
         Listed::Written(bytes) => number(b" written=", bytes as u64),
-        Listed::Refused(refusal) => number(b" refused=", refusal.number() as u64),
+        Listed::Refused(refusal) => reason(refusal),
     }
     text(b"\n");
 }
 
 // Whether the state and what was lent to be written are as they were.
 pub(crate) fn kept(capacity: usize, call: &[u8], same: bool) {
-    begin(capacity, call);
-    if same {
-        text(b" nothing changed\n");
-    } else {
-        text(b" changed\n");
-    }
+    either(capacity, call, same, b" nothing changed\n", b" changed\n");
+}
+
+// Whether the adjoints are those that the pass in one go left.
+pub(crate) fn compared(capacity: usize, call: &[u8], same: bool) {
+    either(
+        capacity,
+        call,
+        same,
+        b" every adjoint as in one go\n",
+        b" other adjoints\n",
+    );
 }
 
 pub(crate) fn filled(capacity: usize, filled: Filled) {
@@ -75,6 +128,21 @@ pub(crate) fn filled(capacity: usize, filled: Filled) {
     end(filled.tape);
 }
 
+pub(crate) fn last_power(capacity: usize, powers: Powers) {
+    begin(capacity, b"last power");
+    node(powers.last);
+    end(powers.tape);
+}
+
+// A pass in slices, from its first slice to its last.
+pub(crate) fn cut(capacity: usize, call: &[u8], cut: Cut) {
+    begin(capacity, call);
+    number(b" slices=", cut.slices);
+    number(b" visited=", cut.edges);
+    number(b" left=", cut.left as u64);
+    end(cut.tape);
+}
+
 fn begin(capacity: usize, call: &[u8]) {
     number(b"n=", capacity as u64);
     text(b" ");
@@ -82,9 +150,22 @@ fn begin(capacity: usize, call: &[u8]) {
     text(b":");
 }
 
+fn either(capacity: usize, call: &[u8], holds: bool, yes: &[u8], no: &[u8]) {
+    begin(capacity, call);
+    if holds {
+        text(yes);
+    } else {
+        text(no);
+    }
+}
+
 fn refused(refusal: Refusal, tape: Tape) -> Tape {
-    number(b" refused=", refusal.number() as u64);
+    reason(refusal);
     end(tape)
+}
+
+fn reason(refusal: Refusal) {
+    number(b" refused=", refusal.number() as u64);
 }
 
 fn end(tape: Tape) -> Tape {
@@ -92,8 +173,21 @@ fn end(tape: Tape) -> Tape {
     number(b" mark=", tape.mark as u64);
     number(b" active=", tape.active as u64);
     number(b" next=", tape.next);
+    let walk = tape.walk;
+    nodes_left(walk);
     text(b"\n");
     tape
+}
+
+// Nothing where no walk is open.
+fn nodes_left(walk: Walk) {
+    match walk {
+        Walk::Closed => {}
+        Walk::Open(span) => {
+            number(b" open=", span.from as u64);
+            number(b"..", span.end as u64);
+        }
+    }
 }
 
 fn node(handle: Handle) {

@@ -1,9 +1,9 @@
--- A read's answer is what the machine's step gives, and so are the answer of clearing or of a pass and the adjoints
--- that it leaves.
+-- A read's answer is what the machine's step gives, and so are the answer of clearing, of a pass, of its opening or of a
+-- slice, and the adjoints that it leaves.
 use mathlib.Core.List.{List}
 use lib.Ieee.{Float}
 use Rattle.tape.specs.Numbers.{floats}
-use Rattle.tape.specs.Machine.{Machine}
+use Rattle.tape.specs.Machine.{Arrays, Machine}
 use Rattle.dual.proofs.OneToOne.{one-to-one}
 use Rattle.decided.specs.Dual.{Dual}
 use Rattle.decided.proofs.Rules.{through-with}
@@ -16,6 +16,10 @@ nothing u M = u
 abbrev pub adjoints : {U : Type 0} → U → Machine floats → Unit {0} × (Unit {0} × (List Float × U))
 adjoints u M = (tt, (tt, (M .lent .adjoint, u)))
 
+-- the same of an opening's and of a slice's, whose answer has the state
+abbrev adjoints-lent : {U : Type 0} → U → Arrays floats → Unit {0} × (Unit {0} × (List Float × U))
+adjoints-lent u A = (tt, (tt, (A .adjoint, u)))
+
 pub dual : Dual
 dual = record {
   value = record { same = through-with (one-to-one .read-outcome) (nothing _) _ _ };
@@ -27,4 +31,6 @@ dual = record {
   backward-mark-to-start = record { same = through-with (one-to-one .pass-outcome) (adjoints _) _ _ };
   propagate-to-mark = record { same = through-with (one-to-one .pass-outcome) (adjoints _) _ _ };
   propagate-mark-to-start = record { same = through-with (one-to-one .pass-outcome) (adjoints _) _ _ };
+  open-pass = record { same = through-with (one-to-one .sliced-outcome) (adjoints-lent _) _ _ };
+  take-slice = record { same = through-with (one-to-one .sliced-outcome) (adjoints-lent _) _ _ };
 }

@@ -28,4 +28,5 @@ tape = record {
   rewind-to-mark = record { same = moved };
   rewind-to-init = record { same = moved };
   admit = record { same = equal };
+  walking = record { same = equal };
 }

@@ -3,6 +3,7 @@ use Rattle.decided.specs.Decided.{Decided}
 use Rattle.dual.proofs.reading as reading
 use Rattle.dual.proofs.clearing as clearing
 use Rattle.dual.proofs.passes as passes
+use Rattle.dual.proofs.slicing as slicing
 
 pub record Dual : Type 0 where
   pub value : Decided reading.value.ended reading.value.Reads.Learnt
@@ -14,3 +15,5 @@ pub record Dual : Type 0 where
   pub backward-mark-to-start : Decided passes.backward_mark_to_start.ended passes.backward_mark_to_start.Reads.Learnt
   pub propagate-to-mark : Decided passes.propagate_to_mark.ended passes.propagate_to_mark.Reads.Learnt
   pub propagate-mark-to-start : Decided passes.propagate_mark_to_start.ended passes.propagate_mark_to_start.Reads.Learnt
+  pub open-pass : Decided slicing.open_pass.ended slicing.open_pass.Reads.Learnt
+  pub take-slice : Decided slicing.take_slice.ended slicing.take_slice.Reads.Learnt

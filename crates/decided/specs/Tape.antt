@@ -18,3 +18,4 @@ pub record Tape : Type 0 where
   pub rewind-to-mark : Decided tape.rewind_to_mark.ended tape.rewind_to_mark.Reads.Learnt
   pub rewind-to-init : Decided tape.rewind_to_init.ended tape.rewind_to_init.Reads.Learnt
   pub admit : Decided tape.admit.ended tape.admit.Reads.Learnt
+  pub walking : Decided tape.walking.ended tape.walking.Reads.Learnt

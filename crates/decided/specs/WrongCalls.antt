@@ -9,19 +9,19 @@ use mathlib.Core.Option.{Option, none, some}
 use lib.Ieee.{Float, nan, binary64, div, neg as minus}
 use lib.ListN.{set, take, replicate}
 use Rattle.tape.specs.Numbers.{floats}
-use Rattle.tape.specs.Machine.{Arrays, Machine, arrays, machine, new-tape, state}
+use Rattle.tape.specs.Machine.{Arrays, Machine, arrays, machine, new-tape, with-walk, state, span, walk-left}
 use Rattle.tape.specs.Handles.{Operand, plain, node, looked-up, usable-as}
 use Rattle.tape.specs.Operations.{UNKNOWN, ADD, SUBTRACT, MULTIPLY, DIVIDE, MAX, MIN, NEGATE, SUPPLIED-ONE, SUPPLIED-TWO, SQRT}
 use Rattle.tape.specs.Walk.{Edge}
 use Rattle.tape.specs.Listing.{listing}
-use Rattle.tape.specs.Answers.{Answer, number, refused, done, read-value, recorded, counted}
-use Rattle.tape.specs.Calls.{Call, Move, start, stop, set-mark, reset-mark, rewind-to-mark, rewind-to-init, move, operate, clear, pass, backward, backward-to-mark, backward-mark-to-start, propagate-to-mark, propagate-mark-to-start, value-of, adjoint-of, is-live, list, issued, written, with-adjoints}
+use Rattle.tape.specs.Answers.{Answer, number, refused, done, read-value, recorded, counted, cut}
+use Rattle.tape.specs.Calls.{Call, Move, start, stop, set-mark, reset-mark, rewind-to-mark, rewind-to-init, move, operate, clear, pass, open-pass, slice, backward, backward-to-mark, backward-mark-to-start, propagate-to-mark, propagate-mark-to-start, value-of, adjoint-of, is-live, list, issued, written, with-adjoints}
 use Rattle.tape.specs.Admission.{lengths, admitted, let-in}
 use Rattle.tape.specs.Refusals.{last-serial}
 use Rattle.tape.specs.Steps.{step}
 use Rattle.tape.specs.Kept.{fresh, after}
-use Rattle.tape.specs.Rows.{float, sevens, handle, node-at, given, leaf, binary, four-calls}
-use Rattle.tape.specs.declared.errors.Refusal.the-variants.{Misshapen, UnknownOperation, NotLive as Refusal·NotLive, Detached, Full, SerialsSpent, ListingTooLong}
+use Rattle.tape.specs.Rows.{float, sevens, handle, node-at, given, leaf, binary, with-open, four-calls}
+use Rattle.tape.specs.declared.errors.Refusal.the-variants.{Misshapen, UnknownOperation, NotLive as Refusal·NotLive, Detached, Full, SerialsSpent, ListingTooLong, OutOfTurn, UnfitSlice}
 use Rattle.tape.specs.declared.node.Handle.{Handle}
 use Rattle.tape.specs.declared.node.Lookup.{Lookup}
 use Rattle.tape.specs.declared.node.Lookup.the-variants.{Live, NotLive}
@@ -32,6 +32,8 @@ use Rattle.tape.specs.declared.admission.Admission.the-variants as admission
 use Rattle.tape.specs.declared.admission.Caller.the-variants as caller
 use Rattle.tape.specs.declared.admission.Lengths.{Lengths}
 use Rattle.tape.specs.declared.tape.Tape.{Tape}
+use Rattle.tape.specs.declared.tape.Walk.{Walk}
+use Rattle.tape.specs.declared.tape.Walk.the-variants.{Closed, Open}
 use Rattle.expr.specs.Operators.{unused}
 use Rattle.expr.specs.Operators as expr
 use Rattle.listing.specs.Outcome.{listed}
@@ -66,8 +68,12 @@ an-admission = tried admission-shown
 abbrev pub a-size : Lengths → Lengths → Tried
 a-size = tried (λ n. n .value ∷ n .adjoint ∷ n .serial ∷ n .count ∷ n .child ∷ n .partial ∷ [])
 
+abbrev pub walk-shown : Walk → List ℕ
+walk-shown Closed = []
+walk-shown (Open s) = s .from ∷ s .end ∷ []
+
 abbrev pub state-shown : Tape → List ℕ
-state-shown t = t .length ∷ t .mark ∷ cond (t .active) 1 0 ∷ t .next ∷ []
+state-shown t = t .length ∷ t .mark ∷ cond (t .active) 1 0 ∷ t .next ∷ walk-shown (t .walk)
 
 abbrev pub a-state : Tape → Tape → Tried
 a-state = tried state-shown
@@ -78,7 +84,7 @@ handle-shown (some h) = h .index ∷ h .serial ∷ []
 
 abbrev pub shown : Answer floats × Machine floats → List ℕ
 shown (a, M) =
-    a .number ∷ bits (a .value) ∷ a .count ∷ handle-shown (a .handle) ++ state-shown (M .state)
+    a .number ∷ bits (a .value) ∷ a .count ∷ a .left ∷ handle-shown (a .handle) ++ state-shown (M .state)
     ++ map bits (M .lent .value) ++ map bits (M .lent .adjoint) ++ M .lent .serial ++ M .lent .count ++ M .lent .child
     ++ map bits (M .lent .partial)
 
@@ -159,6 +165,10 @@ in-second-slot =
 abbrev pub marked : ℕ → Machine floats
 marked m = machine (state 4 m true 5) (after four-calls (fresh (sevens 5)) .lent)
 
+-- the same with mark 2 and a walk of nodes from end - 1 down to from open
+abbrev pub walking : ℕ → ℕ → Machine floats
+walking from end = with-open from end (marked 2)
+
 -- a pass that leaves these adjoints
 abbrev pub passed : Machine floats → ℕ → List ℕ → Answer floats × Machine floats
 passed M edges adjoints = (counted edges, with-adjoints M (map float adjoints))
@@ -187,15 +197,23 @@ lengths-of-tried =
     ∷ a-size (lengths (sevens 4)) (record { value = 4; adjoint = 4; serial = 4; count = 4; child = 4; partial = 8 })
     ∷ []
 
--- new: an active tape; a first serial of 0
+-- new: an active tape; a first serial of 0; a walk open
 abbrev pub new-tried : List Tried
 new-tried = a-state new-tape (state 0 0 true 1)
-    ∷ a-state new-tape (state 0 0 false 0) ∷ []
+    ∷ a-state new-tape (state 0 0 false 0)
+    ∷ a-state new-tape (with-walk (Open (span 0 0)) new-tape) ∷ []
 
--- start_recording: serials that begin anew; the mark kept
+-- start_recording: serials that begin anew; the mark kept; a walk that is open kept; start refused 12 for it
 abbrev pub start-recording-tried : List Tried
 start-recording-tried = a-move start (state 0 0 true 1)
-    ∷ a-move start (state 0 1 true 9) ∷ []
+    ∷ a-move start (state 0 1 true 9)
+    ∷ a-step (step (move start) (walking 1 4)) (done, machine (with-walk (Open (span 1 4)) (state 0 0 true 5)) (marked 2 .lent))
+    ∷ a-step (step (move start) (walking 1 4)) (refused OutOfTurn, walking 1 4) ∷ []
+
+-- walking: a walk with no node left kept open; another walk kept
+abbrev pub walking-tried : List Tried
+walking-tried = a-state (with-walk (walk-left (span 1 1)) (marked 2 .state)) (walking 1 1 .state)
+    ∷ a-state (with-walk (walk-left (span 1 2)) (walking 1 4 .state)) (walking 1 4 .state) ∷ []
 
 -- stop_recording: the nodes dropped; a refusal where the tape is inactive already
 abbrev pub stop-recording-tried : List Tried
@@ -223,11 +241,18 @@ rewind-to-init-tried = a-step (step (move rewind-to-init) (kept 3 1 false)) (don
     ∷ a-move rewind-to-init (state 0 0 true 1) ∷ []
 
 -- admit: a length over the capacity let through; an array longer than it has to be; a move refused for the arrays,
--- which it is not lent
+-- which it is not lent; while a walk is open a value read let through, and an adjoint read refused; 13 before 12; a
+-- walk of one node refused 1, and one past the length let through; a slice of more nodes than there are refused
 abbrev pub admit-tried : List Tried
 admit-tried = an-admission (admitted (let-in caller.Recording (kept 5 0 true))) admission.Granted
     ∷ an-admission (admitted (let-in caller.Listing (machine (state 1 0 true 9) longer))) admission.Granted
-    ∷ an-admission (admitted (let-in caller.Move (kept 5 0 true))) (admission.Refused Misshapen) ∷ []
+    ∷ an-admission (admitted (let-in caller.Move (kept 5 0 true))) (admission.Refused Misshapen)
+    ∷ an-admission (admitted (let-in caller.Value (walking 1 4))) admission.Granted
+    ∷ an-admission (admitted (let-in caller.Adjoint (walking 1 4))) (admission.Refused OutOfTurn)
+    ∷ an-admission (admitted (let-in (caller.Slice 0) (marked 2))) (admission.Refused UnfitSlice)
+    ∷ an-admission (admitted (let-in (caller.Slice 1) (walking 3 4))) (admission.Refused Misshapen)
+    ∷ an-admission (admitted (let-in caller.Start (walking 1 5))) admission.Granted
+    ∷ an-admission (admitted (let-in (caller.Slice 65535) (walking 3 4))) (admission.Refused UnfitSlice) ∷ []
 
 -- ---- wrong answers: expr
 
@@ -364,6 +389,30 @@ propagate-mark-to-start-tried =
     a-step (step (pass propagate-mark-to-start) (marked 3)) (passed (marked 3) 0 (5 ∷ 6 ∷ 1 ∷ 1 ∷ 7 ∷ []))
     ∷ a-step (step (pass propagate-mark-to-start) (marked 3)) (passed (marked 3) 3 (5 ∷ 6 ∷ 1 ∷ 1 ∷ 7 ∷ [])) ∷ []
 
+-- an opening or a slice that leaves these adjoints and nodes
+abbrev pub cut-to : ℕ → ℕ → List ℕ → Machine floats → Answer floats × Machine floats
+cut-to edges left adjoints M = (cut edges left, with-adjoints M (map float adjoints))
+
+-- open_pass: nothing left open, as after the pass in one go; the range walked at once, and left all the same; the seed
+-- left to the first slice; the range told and left without its last node; an empty range left open
+abbrev pub open-pass-tried : List Tried
+open-pass-tried =
+    a-step (step (open-pass propagate-to-mark) (marked 2)) (step (pass propagate-to-mark) (marked 2))
+    ∷ a-step (step (open-pass propagate-to-mark) (marked 2)) (cut-to 0 2 (8 ∷ 9 ∷ 2 ∷ 1 ∷ 7 ∷ []) (walking 2 4))
+    ∷ a-step (step (open-pass (backward (node-at 1))) (marked 2)) (cut-to 0 2 (3 ∷ 3 ∷ 1 ∷ 1 ∷ 7 ∷ []) (walking 0 2))
+    ∷ a-step (step (open-pass (backward (node-at 1))) (marked 2)) (cut-to 0 1 (3 ∷ 1 ∷ 1 ∷ 1 ∷ 7 ∷ []) (walking 1 2))
+    ∷ a-step (step (open-pass propagate-mark-to-start) (marked 0)) (cut 0 0, machine (with-walk (Open (span 0 0)) (marked 0 .state)) (marked 0 .lent)) ∷ []
+
+-- take_slice: one node too far; nodes left counted before it; from the bottom of what is left; more than is left
+-- refused; with none open an empty walk continued
+abbrev pub take-slice-tried : List Tried
+take-slice-tried =
+    a-step (step (slice 1) (walking 0 4)) (cut-to 4 2 (8 ∷ 9 ∷ 2 ∷ 1 ∷ 7 ∷ []) (walking 0 2))
+    ∷ a-step (step (slice 1) (walking 0 4)) (cut-to 2 4 (4 ∷ 3 ∷ 2 ∷ 1 ∷ 7 ∷ []) (walking 0 3))
+    ∷ a-step (step (slice 1) (walking 2 4)) (cut-to 2 1 (5 ∷ 6 ∷ 1 ∷ 1 ∷ 7 ∷ []) (walking 3 4))
+    ∷ a-step (step (slice 2) (walking 3 4)) (refused UnfitSlice, walking 3 4)
+    ∷ a-step (step (slice 1) (marked 2)) (cut 0 0, marked 2) ∷ []
+
 -- ---- wrong answers: listing
 
 -- list: bytes written where the listing does not fit; a listing refused that fits to the last byte; the bytes after it
@@ -396,7 +445,9 @@ passes =
 abbrev pub changes : List (Call floats × Machine floats)
 changes =
     map (λ m. (move m, kept 3 1 true)) (start ∷ stop ∷ set-mark ∷ reset-mark ∷ rewind-to-mark ∷ rewind-to-init ∷ [])
-    ++ ((binary MULTIPLY x0 x1, two) ∷ (clear, marked 2) ∷ passes)
+    ++ ((binary MULTIPLY x0 x1, two) ∷ (clear, marked 2) ∷ (open-pass (backward (node-at 2)), marked 2)
+    ∷ (slice 1, walking 0 4)
+    ∷ passes)
 
 -- and those that read it
 abbrev pub readings : List (Call floats × Machine floats)
@@ -422,13 +473,13 @@ abbrev pub calls-tried : List Tried
 calls-tried =
     number-tried ++ lookup-tried ++ usable-tried ++ lengths-of-tried ++ new-tried ++ start-recording-tried
     ++ stop-recording-tried
-    ++ set-mark-tried ++ reset-mark-tried ++ rewind-to-mark-tried ++ rewind-to-init-tried ++ admit-tried
+    ++ set-mark-tried ++ reset-mark-tried ++ rewind-to-mark-tried ++ rewind-to-init-tried ++ admit-tried ++ walking-tried
     ++ record-tried ++ new-leaf-tried ++ put-on-tape-tried ++ add-tried ++ subtract-tried
     ++ multiply-tried ++ divide-tried ++ max-tried ++ min-tried ++ negate-tried
     ++ supplied-one-tried ++ supplied-two-tried ++ sqrt-tried ++ value-tried ++ adjoint-tried ++ is-live-tried
     ++ reset-adjoints-tried ++ backward-tried ++ backward-to-mark-tried ++ backward-mark-to-start-tried
     ++ propagate-to-mark-tried
-    ++ propagate-mark-to-start-tried ++ list-tried ++ bits-of-tried ++ refuses-tried ++ untouched-tried
+    ++ propagate-mark-to-start-tried ++ open-pass-tried ++ take-slice-tried ++ list-tried ++ bits-of-tried ++ refuses-tried ++ untouched-tried
     ++ nought-or-one-tried
 
 -- none of them is the rule's answer

@@ -18,7 +18,7 @@ use Rattle.tape.specs.Walk.{Edge, push, walk, edges-from, edges-at, indexes, vi
 use Rattle.tape.proofs.Passes.{walk-cut, visited-cut}
 use Rattle.tape.proofs.Ranges.{less-one, nothing-left, indexes-first}
 use Rattle.dual.specs.Inner.{EdgeRoom, NodeRoom, Within, Walkable, edge-arrays, sound-edges}
-use Rattle.dual.specs.declared.planning.Span.{Span}
+use Rattle.tape.specs.declared.tape.Span.{Span}
 
 -- ---- the first of what is left
 

@@ -9,30 +9,36 @@ use mathlib.Core.Option.{Option, none, some}
 use lib.Dec.{leb}
 use lib.ListN.{getD}
 use Rattle.tape.specs.Numbers.{floats}
-use Rattle.tape.specs.Machine.{Arrays, Machine, most-edges, most-nodes, slot, all}
-use Rattle.tape.specs.Admission.{admitted, let-in, when}
+use Rattle.tape.specs.Machine.{Arrays, Machine, machine, most-edges, most-nodes, slot, all}
+use Rattle.tape.specs.Admission.{admitted, let-in, when, first}
 use Rattle.tape.specs.Handles.{Operand, plain, node, operand, live, amiss, handles, any-plain}
-use Rattle.tape.specs.Walk.{sound}
-use Rattle.tape.specs.Calls.{Pass as Pass′, backward, backward-to-mark, backward-mark-to-start, pass, Plan, past, plan, range, carried}
-use Rattle.tape.specs.Refusals.{first-amiss, first, refusal-of}
+use Rattle.tape.specs.Walk.{walk, edges-at, visited, sound}
+use Rattle.tape.specs.Answers.{counted, cut}
+use Rattle.tape.specs.Calls.{Pass as Pass′, backward, backward-to-mark, backward-mark-to-start, propagate-to-mark, propagate-mark-to-start, Call, pass, open-pass, slice, with-adjoints, Plan, past, plan, range, seeded, span-of, nodes-in, leaving, left-of, slice-plan, slice-leaves, carried}
+use Rattle.tape.specs.Refusals.{first-amiss, refusal-of}
 use Rattle.tape.specs.Steps.{unless, step}
 use Rattle.tape.specs.declared.admission.Caller.the-variants as caller
 use Rattle.tape.specs.declared.errors.Refusal.{Refusal}
 use Rattle.tape.specs.declared.errors.Refusal.the-variants.{Detached, UnsoundEdge}
 use Rattle.tape.specs.declared.node.Handle.{Handle}
 use Rattle.tape.specs.declared.node.Usable.the-variants as usable
-use Rattle.tape.proofs.Passes.{ends}
+use Rattle.tape.proofs.OneToOne.{never-nought}
+use Rattle.tape.proofs.Passes.{ends, left-ends}
 use Rattle.tape.proofs.Steps.{Passed, shape, all-live, sound-range, granted-shape, first-live}
 use Rattle.tape.proofs.Tests.{Fit, fit}
-use Rattle.dual.specs.Inner.{pass-of, root-by, root-if, found-root, root-of, planned, span-of, inside, all-sound, sound-edges, carried-out, Below, Within, Ready}
+use Rattle.dual.specs.Outcome.{pass-of, pass-outcome, sliced-outcome}
+use Rattle.dual.specs.Inner.{root-by, root-if, found-root, root-of, operands-of, planned, inside, all-sound, sound-edges, carried-out, opened-as, sliced-by, Below, Within, Ready}
 use Rattle.dual.specs.declared.planning.Found.{Found}
 use Rattle.dual.specs.declared.planning.Found.the-variants as found
-use Rattle.dual.specs.declared.planning.Pass.{Pass}
-use Rattle.dual.specs.declared.planning.Pass.the-variants.{Backward, BackwardToMark, BackwardMarkToStart, PropagateToMark, PropagateMarkToStart}
+use Rattle.dual.specs.declared.passes.Pass.{Pass}
+use Rattle.dual.specs.declared.passes.Pass.the-variants.{Backward, BackwardToMark, BackwardMarkToStart, PropagateToMark, PropagateMarkToStart}
 use Rattle.dual.specs.declared.planning.Planned.{Planned}
 use Rattle.dual.specs.declared.planning.Planned.the-variants.{Refused, Walk}
 use Rattle.dual.specs.declared.planning.Root.{Root}
-use Rattle.dual.specs.declared.planning.Span.{Span}
+use Rattle.dual.specs.declared.planning.Root.the-variants as root
+use Rattle.dual.specs.declared.passes.Passed.{Passed as Passed′}
+use Rattle.dual.specs.declared.passes.Passed.the-variants as passed
+use Rattle.tape.specs.declared.tape.Span.{Span}
 use Rattle.dual.proofs.Loops.{below-any}
 
 -- ---- what the arrays hold
@@ -108,40 +114,111 @@ module _ (M : Machine floats) where
   root-below (plain x ∷ rs) f e = tt
   root-below (node h ∷ rs) f e = let l = first-live M h (handles rs) e .0 in omega arith
 
-  pub ready-so : (p : Pass′ floats) → Ready (planned (refusal-of (pass p) M) (plan p (M .state))) (M .lent .adjoint) (M .lent .count) (M .lent .child) (M .lent .partial)
-  ready-so p = by-cases (refusal-of (pass p) M) refl where
-    by-cases : (o : Option Refusal) → refusal-of (pass p) M ≡ o → Ready (planned o (plan p (M .state))) (M .lent .adjoint) (M .lent .count) (M .lent .child) (M .lent .partial)
+  -- a plan within the length, of sound nodes, whose root is live
+  record Sound (P : Plan floats) : Type 0 where
+    fits : Fit M
+    root : first-amiss M (handles (P .root)) ≡ none
+    end : P .end ≤ M .state .length
+    range : all (map (sound (M .lent)) (range P)) ≡ true
+
+  ready-by : (c : Call floats) (P : Plan floats) → (Passed c M → Sound P) → Ready (planned (refusal-of c M) P) (M .lent .adjoint) (M .lent .count) (M .lent .child) (M .lent .partial)
+  ready-by c P sounds = by-cases (refusal-of c M) refl where
+    by-cases : (o : Option Refusal) → refusal-of c M ≡ o → Ready (planned o P) (M .lent .adjoint) (M .lent .count) (M .lent .child) (M .lent .partial)
     by-cases (some r) e = tt
     by-cases none e =
-        let passed : Passed (pass p) M = record { none-refuses = e } in
-        let f : Fit M = fit M (shape passed) in
-        let end : plan p (M .state) .end ≤ M .state .length = ends p M f (all-live passed) in (
-          root-below (plan p (M .state) .root) f (all-live passed),
+        let is = sounds (record { none-refuses = e }) in
+        let f : Fit M = is .fits in
+        let end = is .end in (
+          root-below (P .root) f (is .root),
           record {
             within = record { small = omega arith; count = omega arith; child = omega arith };
             adjoint = omega arith;
             partial = omega arith;
-            sound = sound-so (M .lent) (span-of (plan p (M .state))) ∙ sound-range passed;
+            sound = sound-so (M .lent) (span-of P) ∙ is .range;
           },
         )
 
-  -- carried out, it is the pass
-  pub carries : (which : Pass) → carried-out (planned (refusal-of (pass (pass-of which)) M) (plan (pass-of which) (M .state))) M ≡ step (pass (pass-of which)) M
-  unfolding step
-  carries which = by-pass which (refusal-of (pass (pass-of which)) M) where
-    by-root : (x : Operand floats) (p : Pass′ floats) (from end : ℕ) → plan p (M .state) ≡ record { root = x ∷ []; from = from; end = end } → (o : Option Refusal) → carried-out (planned o (plan p (M .state))) M ≡ unless o M (carried (pass p) M)
-    by-root x p from end e (some r) = refl
-    by-root (plain v) p from end e none = rw e
-    by-root (node h) p from end e none = rw e
+  pub ready-so : (p : Pass′ floats) → Ready (planned (refusal-of (pass p) M) (plan p (M .state))) (M .lent .adjoint) (M .lent .count) (M .lent .child) (M .lent .partial)
+  ready-so p =
+      ready-by (pass p) (plan p (M .state)) (λ passed.
+      let f : Fit M = fit M (shape passed) in
+      record { fits = f; root = all-live passed; end = ends p M f (all-live passed); range = sound-range passed })
 
-    by-pass : (which : Pass) (o : Option Refusal) → carried-out (planned o (plan (pass-of which) (M .state))) M ≡ unless o M (carried (pass (pass-of which)) M)
-    by-pass (Backward x) o = by-root (operand x) (backward (operand x)) 0 (past (operand x)) refl o
-    by-pass (BackwardToMark x) o = by-root (operand x) (backward-to-mark (operand x)) (M .state .mark) (M .state .length) refl o
-    by-pass (BackwardMarkToStart x) o = by-root (operand x) (backward-mark-to-start (operand x)) 0 (M .state .mark) refl o
-    by-pass PropagateToMark none = refl
-    by-pass PropagateToMark (some r) = refl
-    by-pass PropagateMarkToStart none = refl
-    by-pass PropagateMarkToStart (some r) = refl
+  -- the code's root is seeded as the pass's
+  seeds-same : (p : Pass′ floats) → seeded (operands-of (root-of (plan p (M .state) .root))) (M .lent .adjoint) ≡ seeded (plan p (M .state) .root) (M .lent .adjoint)
+  seeds-same (backward (plain x)) = refl
+  seeds-same (backward (node h)) = refl
+  seeds-same (backward-to-mark (plain x)) = refl
+  seeds-same (backward-to-mark (node h)) = refl
+  seeds-same (backward-mark-to-start (plain x)) = refl
+  seeds-same (backward-mark-to-start (node h)) = refl
+  seeds-same propagate-to-mark = refl
+  seeds-same propagate-mark-to-start = refl
+
+  -- carried out, it is the pass
+  pub carries : (p : Pass′ floats) → carried-out (planned (refusal-of (pass p) M) (plan p (M .state))) M ≡ step (pass p) M
+  unfolding step
+  carries p = by-cases (refusal-of (pass p) M) where
+    by-cases : (o : Option Refusal) → carried-out (planned o (plan p (M .state))) M ≡ unless o M (carried (pass p) M)
+    by-cases (some r) = refl
+    by-cases none =
+        let P = plan p (M .state) in
+        ap (λ s. (counted (visited (M .lent) (range P)), with-adjoints M (walk (P .from) (map (edges-at (M .lent)) (range P)) s))) (seeds-same p)
+
+  -- opened, it is the opening
+  pub opens : (p : Pass′ floats) → opened-as (planned (refusal-of (pass p) M) (plan p (M .state))) M ≡ step (open-pass p) M
+  unfolding step
+  opens p = by-cases (refusal-of (pass p) M) where
+    by-cases : (o : Option Refusal) → opened-as (planned o (plan p (M .state))) M ≡ unless o M (carried (open-pass p) M)
+    by-cases (some r) = refl
+    by-cases none =
+        let P = plan p (M .state) in
+        ap (λ s. (cut 0 (nodes-in (span-of P)), leaving (span-of P) (with-adjoints M s))) (seeds-same p)
+
+  -- ---- slices
+
+  module _ (n : ℕ) where
+    abbrev taken : Plan floats
+    taken = slice-plan n (left-of (M .state .walk))
+
+    pub ready-slice : Ready (planned (refusal-of (slice n) M) taken) (M .lent .adjoint) (M .lent .count) (M .lent .child) (M .lent .partial)
+    ready-slice =
+        ready-by (slice n) taken (λ passed.
+        let f : Fit M = fit M (shape passed) in
+        record { fits = f; root = refl; end = left-ends (M .state .walk) (M .state .length) (f .state .walk); range = sound-range passed })
+
+    module _ (in-so : let-in (caller.Slice n) M ≡ none) where
+      pub slice-within : (s : Span) → s ≡ span-of taken → Within s (M .lent .count) (M .lent .child)
+      slice-within s same =
+          let f : Fit M = fit M (granted-shape (caller.Slice n) M in-so) in
+          let end = left-ends (M .state .walk) (M .state .length) (f .state .walk) in
+          subst (λ s. Within s (M .lent .count) (M .lent .child)) (sym same) (record { small = omega arith; count = omega arith; child = omega arith })
+
+      pub slice-planned : (s : Span) → s ≡ span-of taken → (z : Planned) → z ≡ tested (all-sound (M .lent .count) (M .lent .child) s) s root.None → z ≡ planned (refusal-of (slice n) M) taken
+      slice-planned s same z made =
+          made
+          ∙ ap (λ s. tested (all-sound (M .lent .count) (M .lent .child) s) s root.None) same
+          ∙ ap (λ b. tested b (span-of taken) root.None) (sound-so (M .lent) (span-of taken))
+          ∙ rw in-so (only-range (all (map (sound (M .lent)) (range taken))) taken)
+
+    pub slice-refused : (r : Refusal) → let-in (caller.Slice n) M ≡ some r → Refused r ≡ planned (refusal-of (slice n) M) taken
+    slice-refused r e = rw e
+
+    -- answered by what its walk did, it is the slice
+    pub slices : (x : Passed′) (B : Arrays floats) → pass-outcome x (machine (M .state) B) ≡ carried-out (planned (refusal-of (slice n) M) taken) M → sliced-outcome (sliced-by x (M .state) (slice-leaves n (left-of (M .state .walk)))) B ≡ step (slice n) M
+    unfolding step
+    slices x B e = by-cases x (refusal-of (slice n) M) e where
+      by-cases : (x : Passed′) (o : Option Refusal) → pass-outcome x (machine (M .state) B) ≡ carried-out (planned o taken) M → sliced-outcome (sliced-by x (M .state) (slice-leaves n (left-of (M .state .walk)))) B ≡ unless o M (carried (slice n) M)
+      by-cases (passed.Refused q) (some r) e = e
+      by-cases (passed.Visited k) none e =
+          let rest = slice-leaves n (left-of (M .state .walk)) in
+          λ i. (cut (e i .0 .count) (nodes-in rest), leaving rest (machine (M .state) (e i .1 .lent)))
+      by-cases (passed.Refused q) none e = absurd (never-nought q (ap (λ x. x .0 .number) e))
+      by-cases (passed.Visited k) (some r) e = absurd (never-nought r (sym (ap (λ x. x .0 .number) e)))
+
+-- what is answered is the plan, and so it can be carried out
+pub both : (A : Arrays floats) (P : Planned) → Ready P (A .adjoint) (A .count) (A .child) (A .partial) → (z : Planned) → z ≡ P → (z ≡ P) × Ready z (A .adjoint) (A .count) (A .child) (A .partial)
+both A P ready z e = (e, subst (λ z. Ready z (A .adjoint) (A .count) (A .child) (A .partial)) (sym e) ready)
 
 -- ---- place by place, as the code goes: r is what it found
 

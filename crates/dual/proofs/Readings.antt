@@ -12,8 +12,7 @@ use Rattle.tape.specs.Machine.{Machine}
 use Rattle.tape.specs.Handles.{operand, live, amiss}
 use Rattle.tape.specs.Answers.{done, read-value, counted}
 use Rattle.tape.specs.Calls.{clear, with-adjoints, value-of, adjoint-of, is-live}
-use Rattle.tape.specs.Admission.{let-in}
-use Rattle.tape.specs.Refusals.{first}
+use Rattle.tape.specs.Admission.{let-in, first}
 use Rattle.tape.specs.Steps.{unless, step}
 use Rattle.tape.specs.declared.errors.Refusal.{Refusal}
 use Rattle.tape.specs.declared.node.Lookup.the-variants as lookup

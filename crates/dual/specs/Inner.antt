@@ -8,11 +8,11 @@ use mathlib.Core.Option.{Option, none, some}
 use lib.Ieee.{Float, nan}
 use lib.ListN.{length, getD}
 use Rattle.tape.specs.Numbers.{floats}
-use Rattle.tape.specs.Machine.{Arrays, Machine, arrays, most-nodes, most-edges, slot, all}
-use Rattle.tape.specs.Handles.{Operand, plain, node, operand, looked-up, usable-as}
+use Rattle.tape.specs.Machine.{Arrays, Machine, arrays, most-nodes, most-edges, slot, all, with-walk, walk-left}
+use Rattle.tape.specs.Handles.{Operand, plain, node, looked-up, usable-as}
 use Rattle.tape.specs.Walk.{walk, edges-at, indexes, visited, sound}
-use Rattle.tape.specs.Answers.{Answer, refused, counted}
-use Rattle.tape.specs.Calls.{Pass, backward, backward-to-mark, backward-mark-to-start, propagate-to-mark, propagate-mark-to-start, Plan, range, walked}
+use Rattle.tape.specs.Answers.{Answer, refused, counted, cut}
+use Rattle.tape.specs.Calls.{with-adjoints, Plan, range, seeded, walked, nodes-in, span-of, leaving}
 use Rattle.tape.specs.declared.errors.Refusal.{Refusal}
 use Rattle.tape.specs.declared.errors.Refusal.the-variants.{Detached}
 use Rattle.tape.specs.declared.node.Handle.{Handle}
@@ -23,11 +23,12 @@ use Rattle.tape.specs.declared.node.Usable.the-variants as usable
 use Rattle.tape.specs.declared.node.Operand as code
 use Rattle.tape.specs.declared.admission.Admission.{Admission}
 use Rattle.tape.specs.declared.admission.Admission.the-variants as admission
+use Rattle.tape.specs.declared.tape.Span.{Span}
 use Rattle.tape.specs.declared.tape.Tape.{Tape}
 use Rattle.dual.specs.declared.reading.Read as read
 use Rattle.dual.specs.declared.reading.Liveness as liveness
-use Rattle.dual.specs.declared.planning.Pass as passes
-use Rattle.dual.specs.declared.planning.Span.{Span}
+use Rattle.dual.specs.declared.passes.Passed as passed
+use Rattle.dual.specs.declared.slicing.Sliced as sliced
 use Rattle.dual.specs.declared.planning.Planned as code-plan
 use Rattle.dual.specs.declared.planning.Found as found
 use Rattle.dual.specs.declared.planning.Root as root
@@ -64,14 +65,6 @@ abbrev pub root-if : Admission → found.Found → found.Found
 root-if admission.Granted r = r
 root-if (admission.Refused k) r = found.the-variants.Refused k
 
--- the code's pass
-abbrev pub pass-of : passes.Pass → Pass floats
-pass-of (passes.the-variants.Backward x) = backward (operand x)
-pass-of (passes.the-variants.BackwardToMark x) = backward-to-mark (operand x)
-pass-of (passes.the-variants.BackwardMarkToStart x) = backward-mark-to-start (operand x)
-pass-of passes.the-variants.PropagateToMark = propagate-to-mark
-pass-of passes.the-variants.PropagateMarkToStart = propagate-mark-to-start
-
 abbrev pub root-by : Usable → Handle → found.Found
 root-by usable.Live h = found.the-variants.Root (root.the-variants.At h)
 root-by (usable.Refused r) h = found.the-variants.Refused r
@@ -91,9 +84,6 @@ root-of (node h ∷ os) = root.the-variants.At h
 abbrev pub operands-of : root.Root → List (Operand floats)
 operands-of root.the-variants.None = []
 operands-of (root.the-variants.At h) = node h ∷ []
-
-abbrev pub span-of : Plan floats → Span
-span-of P = record { from = P .from; end = P .end }
 
 -- the plan, unless the pass is refused
 abbrev pub planned : Option Refusal → Plan floats → code-plan.Planned
@@ -119,6 +109,18 @@ carried-out (code-plan.the-variants.Refused r) M = (refused r, M)
 carried-out (code-plan.the-variants.Walk root s) M =
     let P : Plan floats = record { root = operands-of root; from = s .from; end = s .end } in
     (counted (visited (M .lent) (range P)), walked P M)
+
+-- what a plan comes to, opened
+abbrev pub opened-as : code-plan.Planned → Machine floats → Answer floats × Machine floats
+opened-as (code-plan.the-variants.Refused r) M = (refused r, M)
+opened-as (code-plan.the-variants.Walk root s) M =
+    (cut 0 (nodes-in s), leaving s (with-adjoints M (seeded (operands-of root) (M .lent .adjoint))))
+
+-- what a slice answers, by what its walk did and the nodes that are left
+abbrev pub sliced-by : passed.Passed → Tape → Span → sliced.Sliced
+sliced-by (passed.the-variants.Refused r) t left = sliced.the-variants.Refused r t
+sliced-by (passed.the-variants.Visited n) t left =
+    sliced.the-variants.Walked n (nodes-in left) (with-walk (walk-left left) t)
 
 -- ---- walks
 
@@ -152,6 +154,11 @@ pub record Walkable (s : Span) (adjoints : List Float) (counts children : List �
 abbrev pub Below : root.Root → List Float → Type 0
 Below root.the-variants.None adjoints = Unit {0}
 Below (root.the-variants.At h) adjoints = h .index < length adjoints
+
+-- a plan that can be opened
+abbrev pub Seedable : code-plan.Planned → List Float → Type 0
+Seedable (code-plan.the-variants.Refused r) adjoints = Unit {0}
+Seedable (code-plan.the-variants.Walk root s) adjoints = Below root adjoints
 
 -- a plan that can be carried out
 abbrev pub Ready : code-plan.Planned → List Float → List ℕ → List ℕ → List Float → Type 0

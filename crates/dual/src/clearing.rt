@@ -20,7 +20,7 @@ pub enum Cleared {
     Refused(Refusal),
 }
 
-// Sets each live adjoint to +0.0; those past the length stay. Refuses 1 alone.
+// Sets each live adjoint to +0.0; those past the length stay. Refuses 1, and 12 while a walk is open.
 pub fn reset_adjoints(
     tape: Tape,
     value: &[f64],

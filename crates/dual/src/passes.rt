@@ -1,5 +1,5 @@
-// The five reverse passes. Each plans first, which settles every refusal, and then walks.
-use crate::planning::Pass;
+// The five reverse passes. Each plans first, which settles every refusal, and then walks. While a walk in slices is open
+// each is refused 12.
 use crate::planning::Planned;
 use crate::planning::Root;
 use tape::Operand;
@@ -14,8 +14,17 @@ ghost use Rattle.tape.specs.Machine.{arrays, machine, lent-after, lent-before};
 ghost use Rattle.tape.specs.Handles.{operand};
 ghost use Rattle.tape.specs.Calls.{pass, backward, backward-to-mark, backward-mark-to-start, propagate-to-mark, propagate-mark-to-start, seeded};
 ghost use Rattle.tape.specs.Steps.{step};
-ghost use Rattle.dual.specs.Outcome.{pass-outcome};
-ghost use Rattle.dual.specs.Inner.{pass-of, Below, operands-of, Ready, carried-out};
+ghost use Rattle.dual.specs.Outcome.{pass-of, pass-outcome};
+ghost use Rattle.dual.specs.Inner.{Below, operands-of, Ready, carried-out};
+
+// The five passes, under the names of their calls, with the root of those that have one.
+pub enum Pass {
+    Backward(Operand),
+    BackwardToMark(Operand),
+    BackwardMarkToStart(Operand),
+    PropagateToMark,
+    PropagateMarkToStart,
+}
 
 // What a pass answers: how many edges it visited, or the refusal.
 pub enum Passed {
@@ -23,7 +32,7 @@ pub enum Passed {
     Refused(Refusal),
 }
 
-// Sets the root's adjoint to one and walks from it down to the first node. Refuses 1, 3 and 4 for the root, and 7.
+// Sets the root's adjoint to one and walks from it down to the first node. Refuses 1, 12, 3 and 4 for the root, and 7.
 pub fn backward(
     tape: Tape,
     value: &[f64],
@@ -109,7 +118,7 @@ pub fn backward_mark_to_start(
     )
 }
 
-// Walks from the last node down to the mark, with no root. Refuses 1 and 7.
+// Walks from the last node down to the mark, with no root. Refuses 1, 12 and 7.
 pub fn propagate_to_mark(
     tape: Tape,
     value: &[f64],
@@ -135,7 +144,7 @@ pub fn propagate_to_mark(
     )
 }
 
-// Walks from the mark down to the first node, with no root. Refuses 1 and 7.
+// Walks from the mark down to the first node, with no root. Refuses 1, 12 and 7.
 pub fn propagate_mark_to_start(
     tape: Tape,
     value: &[f64],
@@ -180,7 +189,7 @@ fn run(
 }
 
 // Walks as planned, whatever state, values and serials the caller keeps beside these arrays.
-fn carry_out(
+pub(crate) fn carry_out(
     planned: Planned,
     adjoint: &mut [f64],
     count: &[u8],
@@ -202,7 +211,7 @@ fn carry_out(
 }
 
 // The root's adjoint is set to one, and not added to.
-fn seed(root: Root, adjoint: &mut [f64])
+pub(crate) fn seed(root: Root, adjoint: &mut [f64])
     requires { ⌜ Below root (now adjoint) ⌝ }
     ensures { λ _. ⌜ now (adjoint .exit) ≡ seeded {N = floats} (operands-of root) (now (adjoint .entry)) ⌝ }
 {

@@ -1,4 +1,5 @@
-// Planning a pass: every refusal is settled here, with the root and the range, before anything is written.
+// Planning a pass or a slice: every refusal is settled here, with the root and the range, before anything is written.
+use crate::passes::Pass;
 use tape::Admission;
 use tape::Caller;
 use tape::Handle;
@@ -6,34 +7,22 @@ use tape::Lengths;
 use tape::MOST_EDGES;
 use tape::Operand;
 use tape::Refusal;
+use tape::Span;
 use tape::Tape;
 use tape::Usable;
+use tape::Walk;
 ghost use Prim.Native.Nat.{_≤_};
 ghost use mathlib.Core.Path.{_≡_};
 ghost use mathlib.Core.Bool.{cond};
 ghost use mathlib.Core.List.{[], _∷_};
-ghost use Rattle.tape.specs.Machine.{machine, most-nodes, lent-before};
+ghost use Rattle.tape.specs.Machine.{machine, most-nodes, span, lent-before};
 ghost use Rattle.tape.specs.Handles.{node, operand};
-ghost use Rattle.tape.specs.Calls.{pass, plan as Calls·plan, past};
+ghost use Rattle.tape.specs.Calls.{pass, slice, plan as Calls·plan, past, span-of, nodes-in, left-of, cut-at, slice-plan, slice-leaves};
 ghost use Rattle.tape.specs.Admission.{admission, admitted};
 ghost use Rattle.tape.specs.Refusals.{refusal-of};
 ghost use Rattle.tape.specs.declared.admission.Caller.the-variants as caller;
-ghost use Rattle.dual.specs.Inner.{EdgeRoom, Within, Ready, pass-of, root-if, found-root, span-of, planned, all-sound, sound-edges};
-
-// The five passes, under the names of their calls, with the root of those that have one.
-pub(crate) enum Pass {
-    Backward(Operand),
-    BackwardToMark(Operand),
-    BackwardMarkToStart(Operand),
-    PropagateToMark,
-    PropagateMarkToStart,
-}
-
-// The nodes from end - 1 down to from.
-pub(crate) struct Span {
-    pub from: usize,
-    pub end: usize,
-}
+ghost use Rattle.dual.specs.Outcome.{pass-of};
+ghost use Rattle.dual.specs.Inner.{EdgeRoom, Within, Ready, root-if, found-root, planned, all-sound, sound-edges};
 
 // The root of a pass that is let in, if it has one.
 pub(crate) enum Root {
@@ -41,7 +30,8 @@ pub(crate) enum Root {
     At(Handle),
 }
 
-// What a pass is to do: set the adjoint of its root to one, if it has one, and walk; or its refusal.
+// What a pass, its opening or a slice is to do: set the adjoint of the root to one, if there is one, and walk this range
+// or leave it open; or the refusal.
 pub(crate) enum Planned {
     Refused(Refusal),
     Walk(Root, Span),
@@ -78,6 +68,83 @@ pub(crate) fn plan(
         Found::Refused(refusal) => Planned::Refused(refusal),
         Found::Root(root) => if_sound(root, range_of(which, tape), count, child),
     }
+}
+
+// The nodes that a slice takes, once everything was tested that it can be refused for.
+pub(crate) fn plan_slice(
+    nodes: usize,
+    tape: Tape,
+    value: &[f64],
+    adjoint: &[f64],
+    serial: &[u64],
+    count: &[u8],
+    child: &[u16],
+    partial: &[f64],
+) -> Planned
+    ensures { λ x. ⌜
+        x
+        ≡ planned (refusal-of (slice nodes) (machine tape (lent-before value adjoint serial count child partial))) (slice-plan nodes (left-of (tape .walk))) ⌝ }
+    ensures { λ x. ⌜ Ready x (now (adjoint .entry)) (now (count .entry)) (now (child .entry)) (now (partial .entry)) ⌝ }
+{
+    match tape.admit(
+        Caller::Slice(nodes),
+        Lengths::of(value, adjoint, serial, count, child, partial),
+    ) {
+        Admission::Refused(refusal) => Planned::Refused(refusal),
+        Admission::Granted => if_sound(Root::None, taken_by(nodes, left_of(tape)), count, child),
+    }
+}
+
+// The nodes that are left of the walk that is open.
+pub(crate) fn left_of(tape: Tape) -> Span
+    ensures { λ x. ⌜ x ≡ left-of (tape .walk) ⌝ }
+{
+    let walk = tape.walk;
+    match walk {
+        Walk::Closed => Span { from: 0, end: 0 },
+        Walk::Open(span) => span,
+    }
+}
+
+// Those of them that a slice takes, from the top.
+fn taken_by(nodes: usize, left: Span) -> Span
+    ensures { λ x. ⌜ x ≡ span (cut-at nodes left) (left .end) ⌝ }
+{
+    Span {
+        from: cut_at(nodes, left),
+        end: left.end,
+    }
+}
+
+// Those that it leaves.
+pub(crate) fn left_after(nodes: usize, left: Span) -> Span
+    ensures { λ x. ⌜ x ≡ slice-leaves nodes left ⌝ }
+{
+    Span {
+        from: left.from,
+        end: cut_at(nodes, left),
+    }
+}
+
+// The lowest node that a slice takes. It takes all that are left where they are fewer than it asks for.
+fn cut_at(nodes: usize, left: Span) -> usize
+    ensures { λ x. ⌜ x ≡ cut-at nodes left ⌝ }
+{
+    let all = nodes_in(left);
+    if nodes < all {
+        return left.end - nodes;
+    }
+    left.end - all
+}
+
+// How many nodes there are from end - 1 down to from.
+pub(crate) fn nodes_in(span: Span) -> usize
+    ensures { λ x. ⌜ x ≡ nodes-in span ⌝ }
+{
+    if span.end <= span.from {
+        return 0;
+    }
+    span.end - span.from
 }
 
 // The root, if the pass is let in.

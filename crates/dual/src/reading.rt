@@ -31,8 +31,8 @@ pub enum Liveness {
     Refused(Refusal),
 }
 
-// The value of a number, which is the number, or of the node behind a handle. Refuses 1, and 3 for a handle that is not
-// live.
+// The value of a number, which is the number, or of the node behind a handle. Refuses 1, 12 while a walk is open, and 3
+// for a handle that is not live.
 pub fn value(
     tape: Tape,
     value: &[f64],
@@ -56,7 +56,8 @@ pub fn value(
     }
 }
 
-// The adjoint of the node behind a handle. Refuses 1, 3 for a handle that is not live, and 4 for a number.
+// The adjoint of the node behind a handle; while a walk is open, as the slices so far have left it. Refuses 1, 3 for a
+// handle that is not live, and 4 for a number.
 pub fn adjoint(
     tape: Tape,
     value: &[f64],
@@ -80,7 +81,7 @@ pub fn adjoint(
     }
 }
 
-// Whether a handle is live; a number is not. Refuses 1 alone.
+// Whether a handle is live; a number is not. Refuses 1, and 12 while a walk is open.
 pub fn is_live(
     tape: Tape,
     value: &[f64],

@@ -1,6 +1,6 @@
 // The walk: the chain rule over a range of nodes, from the highest down.
-use crate::planning::Span;
 use tape::MOST_EDGES;
+use tape::Span;
 ghost use mathlib.Core.Path.{_≡_};
 ghost use lib.ListN.{getD};
 ghost use lib.Ieee.{nan};

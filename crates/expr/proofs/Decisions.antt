@@ -10,12 +10,11 @@ use Rattle.tape.specs.Walk.{Edge}
 use Rattle.tape.specs.Calls.{edge}
 use Rattle.tape.specs.declared.admission.Caller.the-variants as caller
 use Rattle.tape.specs.declared.admission.Lengths.{Lengths}
-use Rattle.tape.proofs.Steps.{unhit}
+use Rattle.tape.proofs.Steps.{let-in-fits}
 use Rattle.tape.proofs.Tests.{every}
-use borrow.Author.Tests.{leb-true, not-false}
+use borrow.Author.Tests.{leb-true}
 use Rattle.tape.specs.Handles.{operand, usable-as}
-use Rattle.tape.specs.Admission.{arrays-fit, state-fits, admission as Calls·admission}
-use Rattle.tape.specs.Refusals.{first}
+use Rattle.tape.specs.Admission.{arrays-fit, state-fits, admission as Calls·admission, first}
 use Rattle.tape.specs.declared.errors.Refusal.{Refusal}
 use Rattle.tape.specs.declared.node.Handle.{Handle}
 use Rattle.tape.specs.declared.node.Operand.{Operand}
@@ -84,7 +83,7 @@ door-granted d s l r a q e h = subst (λ a. Decides d (first (a ∷ q ∷ [])) s
 
 pub length-small : (t : Tape) (n : Lengths) → Calls·admission caller.Recording n t ≡ none → t .length ≤ most-nodes
 length-small t n e =
-    let (small, (_, (_, (_, (_, (_, (below, _))))))) = every (arrays-fit n ++ state-fits (n .value) t) (not-false _ (unhit _ _ e)) in
+    let (small, (_, (_, (_, (_, (_, (below, _))))))) = every (arrays-fit n ++ state-fits (n .value) t) (let-in-fits caller.Recording n t e) in
     let a : n .value ≤ most-nodes = leb-true _ _ small in
     let b : t .length ≤ n .value = leb-true _ _ below in
     omega arith

@@ -17,8 +17,8 @@ use Rattle.tape.specs.Operations.{Row, row, rows, as-stored, apply, known, one-
 use Rattle.tape.specs.Answers.{Answer, refused, detached}
 use Rattle.tape.specs.Walk.{Edge}
 use Rattle.tape.specs.Calls.{edge, edges, operate}
-use Rattle.tape.specs.Admission.{lengths, fits, let-in, when}
-use Rattle.tape.specs.Refusals.{first-amiss, first, last-serial}
+use Rattle.tape.specs.Admission.{lengths, fits, let-in, when, first}
+use Rattle.tape.specs.Refusals.{first-amiss, last-serial}
 use Rattle.tape.specs.Steps.{unless, step}
 use Rattle.tape.specs.declared.errors.Refusal.{Refusal}
 use Rattle.tape.specs.declared.errors.Refusal.the-variants.{UnknownOperation, Full, SerialsSpent}

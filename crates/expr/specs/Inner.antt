@@ -18,8 +18,8 @@ use Rattle.tape.specs.Operations as operations
 use Rattle.tape.specs.Answers.{Answer, refused, detached, recorded}
 use Rattle.tape.specs.Walk.{Edge, edges-from}
 use Rattle.tape.specs.Calls.{issued, written, edge}
-use Rattle.tape.specs.Admission.{admitted, admission}
-use Rattle.tape.specs.Refusals.{last-serial, first}
+use Rattle.tape.specs.Admission.{admitted, admission, first}
+use Rattle.tape.specs.Refusals.{last-serial}
 use Rattle.tape.specs.declared.errors.Refusal.{Refusal}
 use Rattle.tape.specs.declared.errors.Refusal.the-variants.{UnknownOperation, Full, SerialsSpent}
 use Rattle.tape.specs.declared.node.Usable.{Usable}

@@ -8,12 +8,16 @@ use crate::model::Drive;
 use crate::model::MODEL_NODES;
 use crate::model::Made;
 use crate::model::Model;
+use crate::slices;
+use crate::slices::Passes;
+use crate::slices::Way;
 use crate::turn;
 use crate::turn::INDEX_NODES;
 use crate::turn::INTERVAL_NODES;
 use crate::turn::Index;
 use crate::turn::Turned;
 use dual::Cleared;
+use dual::Pass;
 use dual::Read;
 use tape::MOST_EDGES;
 use tape::Tape;
@@ -37,13 +41,14 @@ const MOST_OFF: usize = 8;
 // A move of either parameter that is less than this no longer shows in what is written.
 const SETTLED: f64 = 1.0 / 268_435_456.0;
 
-// A step: where it was taken, the misfit an interval there, the edges that its passes visited, and where it leads; or
-// its refusal.
+// A step: where it was taken, the misfit an interval there, the edges that its passes visited, what all passes up to it
+// came to, and where it leads; or its refusal.
 pub struct Step {
     pub tape: Tape,
     pub drive: Drive,
     pub misfit: f64,
     pub edges: u64,
+    pub passes: Passes,
     pub next: Drive,
     pub refusal: u8,
 }
@@ -80,7 +85,14 @@ struct Slope {
 }
 
 // All steps, from the speed of the median index time and nominal cells on.
-pub(crate) fn fit(reading: Reading, times: &Times, ends: &Ends, ticks: &[u32], median: u32) -> Steps
+pub(crate) fn fit(
+    reading: Reading,
+    times: &Times,
+    ends: &Ends,
+    ticks: &[u32],
+    median: u32,
+    way: Way,
+) -> Steps
     requires { ⌜ Within reading ⌝ }
 {
     let mut value = [0.0; NODES];
@@ -101,6 +113,7 @@ pub(crate) fn fit(reading: Reading, times: &Times, ends: &Ends, ticks: &[u32], m
         ends,
         ticks,
         median,
+        way,
     )
 }
 
@@ -116,10 +129,11 @@ fn run(
     ends: &Ends,
     ticks: &[u32],
     median: u32,
+    way: Way,
 ) -> Steps
     requires { ⌜ Within reading ⌝ }
 {
-    let mut steps = Steps::none(median);
+    let mut steps = Steps::none(median, way);
     for i in 0..MOST_STEPS {
         let before = steps.last;
         if before.is_over() | is_given_up(i, before, reading, ticks) {
@@ -178,16 +192,14 @@ fn take_step(
 {
     let drive = before.next;
     let place = place_at(drive, reading, times, ticks, median);
-    let tape = before.tape;
     let summed = gather(
-        tape,
+        before,
         value,
         adjoint,
         serial,
         count,
         child,
         partial,
-        drive,
         reading.revolutions,
         times,
         ends,
@@ -199,14 +211,13 @@ fn take_step(
 
 // Everything up to the last pass.
 fn gather(
-    tape: Tape,
+    before: Step,
     value: &mut [f64],
     adjoint: &mut [f64],
     serial: &mut [u64],
     count: &mut [u8],
     child: &mut [u16],
     partial: &mut [f64],
-    drive: Drive,
     revolutions: usize,
     times: &Times,
     ends: &Ends,
@@ -215,7 +226,7 @@ fn gather(
 ) -> Gathered
     requires { ⌜ revolutions ≤ 64 ⌝ }
 {
-    let begun = begin(tape, value, adjoint, serial, count, child, partial, drive);
+    let begun = begin(before, value, adjoint, serial, count, child, partial);
     let model = begun.model;
     let marked = begun.turned;
     let turned = turn_all(
@@ -238,32 +249,34 @@ fn gather(
 
 // The model, the mark behind it, and its adjoints cleared.
 fn begin(
-    tape: Tape,
+    before: Step,
     value: &mut [f64],
     adjoint: &mut [f64],
     serial: &mut [u64],
     count: &mut [u8],
     child: &mut [u16],
     partial: &mut [f64],
-    drive: Drive,
 ) -> Gathered {
-    let start = Made::started(tape);
+    let start = before.start_anew();
+    let drive = before.next;
     let model = model::record_model(start, value, adjoint, serial, count, child, partial, drive);
-    let turned = mark(model, value, adjoint, serial, count, child, partial);
+    let passes = before.passes;
+    let turned = mark(model, value, adjoint, serial, count, child, partial, passes);
     Gathered { model, turned }
 }
 
 fn mark(
     model: Model,
-    value: &mut [f64],
+    value: &[f64],
     adjoint: &mut [f64],
-    serial: &mut [u64],
-    count: &mut [u8],
-    child: &mut [u16],
-    partial: &mut [f64],
+    serial: &[u64],
+    count: &[u8],
+    child: &[u16],
+    partial: &[f64],
+    passes: Passes,
 ) -> Turned {
     let seen = model.seen;
-    let before = Turned::none(seen);
+    let before = Turned::none(seen, passes);
     if before.refusal > 0 {
         return before;
     }
@@ -352,12 +365,12 @@ fn pulling_turns(revolutions: usize, times: &Times, median: u32) -> u64
 // The last pass, unless something was refused before, and the step that it leads to.
 fn finish(
     gathered: Gathered,
-    value: &mut [f64],
+    value: &[f64],
     adjoint: &mut [f64],
-    serial: &mut [u64],
-    count: &mut [u8],
-    child: &mut [u16],
-    partial: &mut [f64],
+    serial: &[u64],
+    count: &[u8],
+    child: &[u16],
+    partial: &[f64],
     place: Place,
 ) -> Step {
     let model = gathered.model;
@@ -378,26 +391,40 @@ fn finish(
 
 fn pass_model(
     before: Turned,
-    value: &mut [f64],
+    value: &[f64],
     adjoint: &mut [f64],
-    serial: &mut [u64],
-    count: &mut [u8],
-    child: &mut [u16],
-    partial: &mut [f64],
+    serial: &[u64],
+    count: &[u8],
+    child: &[u16],
+    partial: &[f64],
 ) -> Turned {
     if before.refusal > 0 {
         return before;
     }
     let tape = before.tape;
-    before.passed(dual::passes::propagate_mark_to_start(
-        tape,
-        value,
-        adjoint,
-        serial,
-        count,
-        child,
-        partial,
-    ))
+    let way = before.way();
+    match way {
+        Way::InOneGo => before.passed(dual::passes::propagate_mark_to_start(
+            tape,
+            value,
+            adjoint,
+            serial,
+            count,
+            child,
+            partial,
+        )),
+        Way::InSlices(nodes) => slices::pass(
+            before,
+            value,
+            adjoint,
+            serial,
+            count,
+            child,
+            partial,
+            Pass::PropagateMarkToStart,
+            nodes,
+        ),
+    }
 }
 
 // By the slope that the passes left at the parameters.
@@ -441,12 +468,12 @@ fn slope_of(read: Read) -> Slope {
 
 impl Steps {
     // Before the first step.
-    fn none(median: u32) -> Steps {
+    fn none(median: u32, way: Way) -> Steps {
         let start = Drive {
             speed: TURN / median as f64,
             cell: 1.0,
         };
-        let last = Step::to(start);
+        let last = Step::to(start, way);
         let misfit = [0.0; MOST_STEPS];
         let speed = [0.0; MOST_STEPS];
         let cell = [0.0; MOST_STEPS];
@@ -478,7 +505,7 @@ impl Steps {
 
 impl Step {
     // Before the first step, which is taken there.
-    fn to(next: Drive) -> Step {
+    fn to(next: Drive, way: Way) -> Step {
         let tape = Tape::new();
         let nowhere = Drive {
             speed: 0.0,
@@ -489,9 +516,16 @@ impl Step {
             drive: nowhere,
             misfit: 0.0,
             edges: 0,
+            passes: Passes::none(way),
             next,
             refusal: 0,
         }
+    }
+
+    // The next step begins on a tape that is started anew.
+    fn start_anew(self) -> Made {
+        let tape = self.tape;
+        Made::started(tape)
     }
 
     // Whether the step leads no further: both parameters stay where they are.
@@ -507,12 +541,14 @@ impl Step {
 
     fn taken(turned: Turned, place: Place, by_speed: Slope, by_cell: Slope) -> Step {
         let tape = turned.tape;
+        let passes = turned.passes;
         let drive = place.drive;
         Step {
             tape,
             drive,
             misfit: turned.misfit / place.intervals,
             edges: turned.edges,
+            passes,
             next: place.bottom(by_speed.x, by_cell.x),
             refusal: first(turned.refusal, first(by_speed.refusal, by_cell.refusal)),
         }

@@ -225,7 +225,7 @@ fn after_word(line: &[u8]) -> &[u8] {
     &line[WORD..]
 }
 
-fn begins(line: &[u8], word: &[u8]) -> bool {
+pub(crate) fn begins(line: &[u8], word: &[u8]) -> bool {
     if line.len() < word.len() {
         return false;
     }

@@ -1,4 +1,6 @@
-// Fits drive speed and bit-cell time to recorded flux, all turns kept: `imaging [-v] FILE..`.
+// Fits drive speed and bit-cell time to recorded flux, all turns kept: `imaging [-v] FILE.. [--slice N FILE..]`. The
+// files behind `--slice N` are fitted with every pass in slices of N nodes.
+mod arguments;
 mod digits;
 mod file;
 mod fit;
@@ -7,6 +9,7 @@ mod lines;
 mod model;
 mod out;
 mod report;
+mod slices;
 mod spread;
 mod tally;
 mod turn;
@@ -16,6 +19,7 @@ use flux::Ends;
 use flux::Reading;
 use flux::Times;
 use out::Out;
+use slices::Way;
 use tally::Tally;
 ghost use mathlib.Core.Path.{_≡_};
 ghost use Prim.Native.Nat.{_+_, _-_, _<_, _≤_, _^_};
@@ -34,22 +38,23 @@ pub struct Ended {
     pub fitted: bool,
 }
 
+// What is asked of a file's fit: that its steps are shown, and how its passes are taken.
+pub struct Asked {
+    pub verbose: bool,
+    pub way: Way,
+}
+
 fn main() {
-    let arguments = os::arg_count();
-    let verbose = is_verbose();
-    let told = fit_all(first_file(verbose), arguments, verbose);
+    let count = os::arg_count();
+    let verbose = arguments::is_verbose();
+    let first = first_file(verbose);
+    let slice = arguments::find_slice(first, count);
+    let way = Way::InOneGo;
+    let whole = fit_all(Told::new(), first, slice, Asked { verbose, way });
+    let told = fit_in_slices(whole, slice, count, verbose);
     let out = told.out;
     let tally = told.tally;
     tally::last_line(out, tally);
-}
-
-// Whether the first argument is `-v`.
-fn is_verbose() -> bool {
-    let mut word = [0u8; 2];
-    if os::arg(1, &mut word) != 2 {
-        return false;
-    }
-    (word[0] == b'-') & (word[1] == b'v')
 }
 
 fn first_file(verbose: bool) -> usize
@@ -61,13 +66,30 @@ fn first_file(verbose: bool) -> usize
     1
 }
 
-fn fit_all(first: usize, arguments: usize, verbose: bool) -> Told
-    requires { ⌜ 1 ≤ first ⌝ }
-    ensures { λ r. ⌜ files (r .tally) ≡ arguments - first ⌝ }
+// The files behind the word `--slice` and its number, of which there may be none.
+fn fit_in_slices(before: Told, slice: usize, arguments: usize, verbose: bool) -> Told
+    requires { ⌜ files (before .tally) ≤ slice ⌝ }
+    ensures { λ r. ⌜ files (r .tally) ≡ files (before .tally) + (arguments - (slice + 2)) ⌝ }
 {
-    let mut told = Told::new();
-    for i in first..arguments {
-        told = told.with(i, verbose);
+    if slice >= arguments {
+        return before;
+    }
+    let size = slice + 1;
+    if size >= arguments {
+        return before;
+    }
+    let way = Way::InSlices(arguments::slice_size(size));
+    fit_all(before, size + 1, arguments, Asked { verbose, way })
+}
+
+// The files from one argument on, up to another.
+fn fit_all(before: Told, first: usize, end: usize, asked: Asked) -> Told
+    requires { ⌜ files (before .tally) ≤ first ⌝ }
+    ensures { λ r. ⌜ files (r .tally) ≡ files (before .tally) + (end - first) ⌝ }
+{
+    let mut told = before;
+    for i in first..end {
+        told = told.with(i, asked);
     }
     told
 }
@@ -83,13 +105,13 @@ impl Told {
     }
 
     // The file of one argument more.
-    fn with(self, argument: usize, verbose: bool) -> Told
+    fn with(self, argument: usize, asked: Asked) -> Told
         requires { ⌜ files (self .tally) + 1 < 2 ^ 64 ⌝ }
         ensures { λ r. ⌜ files (r .tally) ≡ files (self .tally) + 1 ⌝ }
     {
         let out = self.out;
         let tally = self.tally;
-        let ended = fit_argument(out, argument, verbose);
+        let ended = fit_argument(out, argument, asked);
         let out = ended.out;
         Told {
             out,
@@ -98,7 +120,7 @@ impl Told {
     }
 }
 
-fn fit_argument(out: Out, argument: usize, verbose: bool) -> Ended {
+fn fit_argument(out: Out, argument: usize, asked: Asked) -> Ended {
     let mut name = io::buffer();
     let length = os::arg(argument, &mut name);
     if length == 0 {
@@ -107,10 +129,10 @@ fn fit_argument(out: Out, argument: usize, verbose: bool) -> Ended {
             fitted: false,
         };
     }
-    fit_file(out, &mut name[..length], verbose)
+    fit_file(out, &mut name[..length], asked)
 }
 
-fn fit_file(out: Out, name: &mut [u8], verbose: bool) -> Ended {
+fn fit_file(out: Out, name: &mut [u8], asked: Asked) -> Ended {
     let mut times = [0u32; flux::MOST_REVOLUTIONS];
     let mut ends = [0usize; flux::ENDS];
     let mut space = [0u32; flux::MOST_INTERVALS];
@@ -123,7 +145,7 @@ fn fit_file(out: Out, name: &mut [u8], verbose: bool) -> Ended {
             fitted: false,
         };
     }
-    fit_turns(out, name, reading, &times, &ends, ticks, verbose)
+    fit_turns(out, name, reading, &times, &ends, ticks, asked)
 }
 
 // A name goes into one line, whatever it is made of.
@@ -147,22 +169,21 @@ fn fit_turns(
     times: &Times,
     ends: &Ends,
     ticks: &[u32],
-    verbose: bool,
+    asked: Asked,
 ) -> Ended
     requires { ⌜ Within reading ⌝ }
 {
     let revolutions = reading.revolutions;
     let median = flux::median(reading, times);
-    let steps = fit::fit(reading, times, ends, ticks, median);
+    let way = asked.way;
+    let steps = fit::fit(reading, times, ends, ticks, median, way);
     let judged = verdict::judge(steps, reading, times, ends, ticks, median);
-    let last = steps.last;
-    let reached = last.drive;
     let by_cells = judged.by_cells;
-    let told = report::verdict(out, name, judged, reached, reading);
+    let told = report::verdict(out, name, judged, steps.last, reading);
     let told = report::by_cells(told, by_cells);
     let told = report::turns(told, revolutions, times, ends, ticks, judged.seen, median);
     Ended {
-        out: report::steps(told, steps, verbose),
+        out: report::steps(told, steps, asked.verbose),
         fitted: judged.is_fitted(),
     }
 }

@@ -221,7 +221,7 @@ pub(crate) fn record(
         Recorded::Node(v, handle, after) => made_of(after, Operand::Node(handle), v),
         // On an inactive tape, which this program does not have; as a root, the number would be refused.
         Recorded::Detached(v, after) => made_of(after, Operand::Number(v), v),
-        Recorded::Refused(refusal, after) => Made::nothing(after).refused(refusal),
+        Recorded::Refused(refusal, after) => Made::refused(after, refusal),
     }
 }
 
@@ -239,7 +239,7 @@ impl Made {
     pub(crate) fn started(tape: Tape) -> Made {
         match tape.start_recording() {
             Moved::Done(after) => Made::nothing(after),
-            Moved::Refused(refusal, after) => Made::nothing(after).refused(refusal),
+            Moved::Refused(refusal, after) => Made::refused(after, refusal),
         }
     }
 
@@ -247,8 +247,9 @@ impl Made {
         made_of(tape, Operand::Number(0.0), 0.0)
     }
 
-    fn refused(mut self, refusal: Refusal) -> Made {
-        self.refusal = refusal.number();
-        self
+    fn refused(tape: Tape, refusal: Refusal) -> Made {
+        let mut made = Made::nothing(tape);
+        made.refusal = refusal.number();
+        made
     }
 }

@@ -1,5 +1,6 @@
 // What is written of a file: a line with its verdict or its fault, and under it what the verdict rests on.
 use crate::fit::MOST_STEPS;
+use crate::fit::Step;
 use crate::fit::Steps;
 use crate::flux;
 use crate::flux::Ends;
@@ -13,6 +14,8 @@ use crate::flux::SHORTEST_TURN;
 use crate::flux::Times;
 use crate::model::Drive;
 use crate::out::Out;
+use crate::slices::Passes;
+use crate::slices::Way;
 use crate::spread::Error;
 use crate::spread::Spread;
 use crate::verdict::CELLS;
@@ -32,21 +35,36 @@ pub(crate) fn no_name(out: Out, argument: usize) -> Out {
         .text(b": not the name of a file\n")
 }
 
-pub(crate) fn verdict(
-    out: Out,
-    name: &[u8],
-    judged: Judged,
-    drive: Drive,
-    reading: Reading,
-) -> Out {
+pub(crate) fn verdict(out: Out, name: &[u8], judged: Judged, last: Step, reading: Reading) -> Out {
+    let drive = last.drive;
     let named = out.text(name).text(b": ");
+    let told = verdict_words(named, judged, drive, reading);
+    services(told, last.passes).text(b"\n")
+}
+
+fn verdict_words(out: Out, judged: Judged, drive: Drive, reading: Reading) -> Out {
     let all = reading.intervals;
     if judged.is_fitted() {
-        let told = fitted(named, drive, judged.spread);
-        return rests_on(told, judged.off, reading.revolutions, all).text(b"\n");
+        let told = fitted(out, drive, judged.spread);
+        return rests_on(told, judged.off, reading.revolutions, all);
     }
     let verdict = judged.verdict;
-    why_not(named.text(b"not fitted: "), verdict, all).text(b"\n")
+    why_not(out.text(b"not fitted: "), verdict, all)
+}
+
+// Where passes were cut, how often the reader's motor could be served.
+fn services(out: Out, passes: Passes) -> Out {
+    let way = passes.way;
+    match way {
+        Way::InOneGo => out,
+        Way::InSlices(_) => {
+            out.text(b"; ")
+                .counted(passes.slices, b"slice")
+                .text(b", at most ")
+                .counted(passes.most, b"node")
+                .text(b" between two services")
+        }
+    }
 }
 
 fn fitted(out: Out, drive: Drive, spread: Spread) -> Out {

@@ -3,6 +3,10 @@ use crate::model;
 use crate::model::Made;
 use crate::model::Model;
 use crate::model::Operation;
+use crate::slices;
+use crate::slices::Passes;
+use crate::slices::Way;
+use dual::Pass;
 use dual::Passed;
 use tape::Moved;
 use tape::Operand;
@@ -37,6 +41,7 @@ pub struct Turned {
     pub tape: Tape,
     pub misfit: f64,
     pub edges: u64,
+    pub passes: Passes,
     pub refusal: u8,
 }
 
@@ -118,22 +123,47 @@ fn turn_part(
 
 fn pass_back(
     before: Turned,
-    value: &mut [f64],
+    value: &[f64],
     adjoint: &mut [f64],
-    serial: &mut [u64],
-    count: &mut [u8],
-    child: &mut [u16],
-    partial: &mut [f64],
+    serial: &[u64],
+    count: &[u8],
+    child: &[u16],
+    partial: &[f64],
     misfit: Made,
 ) -> Turned {
     let recorded = before.with(misfit);
     if recorded.refusal > 0 {
         return recorded;
     }
-    let tape = recorded.tape;
     let root = misfit.x;
-    recorded
-        .passed(dual::passes::backward_to_mark(
+    let passed = pass_to_mark(
+        recorded,
+        value,
+        adjoint,
+        serial,
+        count,
+        child,
+        partial,
+        root,
+    );
+    let tape = passed.tape;
+    passed.moved(tape.rewind_to_mark())
+}
+
+fn pass_to_mark(
+    before: Turned,
+    value: &[f64],
+    adjoint: &mut [f64],
+    serial: &[u64],
+    count: &[u8],
+    child: &[u16],
+    partial: &[f64],
+    root: Operand,
+) -> Turned {
+    let tape = before.tape;
+    let way = before.way();
+    match way {
+        Way::InOneGo => before.passed(dual::passes::backward_to_mark(
             tape,
             value,
             adjoint,
@@ -142,8 +172,19 @@ fn pass_back(
             child,
             partial,
             root,
-        ))
-        .moved(tape.rewind_to_mark())
+        )),
+        Way::InSlices(nodes) => slices::pass(
+            before,
+            value,
+            adjoint,
+            serial,
+            count,
+            child,
+            partial,
+            Pass::BackwardToMark(root),
+            nodes,
+        ),
+    }
 }
 
 // The index time, and then every interval.
@@ -274,14 +315,20 @@ impl Index {
 
 impl Turned {
     // Before the first turn, once the model is recorded.
-    pub(crate) fn none(model: Made) -> Turned {
+    pub(crate) fn none(model: Made, passes: Passes) -> Turned {
         let tape = model.tape;
         Turned {
             tape,
             misfit: 0.0,
             edges: 0,
+            passes,
             refusal: model.refusal,
         }
+    }
+
+    pub(crate) fn way(self) -> Way {
+        let passes = self.passes;
+        passes.way
     }
 
     pub(crate) fn moved(mut self, moved: Moved) -> Turned {
@@ -302,6 +349,21 @@ impl Turned {
             }
             Passed::Refused(refusal) => self.refused(refusal),
         }
+    }
+
+    // A pass that is opened, and its walk left to slices.
+    pub(crate) fn opened(mut self, tape: Tape) -> Turned {
+        self.tape = tape;
+        self
+    }
+
+    // One slice more, of so many nodes.
+    pub(crate) fn sliced(mut self, edges: u32, nodes: usize, tape: Tape) -> Turned {
+        let passes = self.passes;
+        self.tape = tape;
+        self.edges = std::num::wrapping_add_u64(self.edges, edges as u64);
+        self.passes = passes.with_slice(nodes);
+        self
     }
 
     // Keeps the first refusal.

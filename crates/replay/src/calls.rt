@@ -25,8 +25,10 @@ pub const ABSENT: u8 = 0;
 // No word that can be read.
 const WRONG: u8 = b'?';
 
-// A refusal of the port's, which stands in no list.
+// A refusal of the port's, and a wrong number of nodes that a slice of it says are left: words that stand in no list.
 pub const REFUSED: u8 = b'!';
+
+pub const LEFT: u8 = b'l';
 
 // The decimal digits of a number at most.
 const MOST_DIGITS: usize = 5;

@@ -5,9 +5,13 @@ use crate::calls::NO_WORD;
 use crate::calls::REFUSED;
 use crate::calls::Said;
 use crate::calls::VISITED;
+use crate::slices::Cut;
+use crate::slices::Way;
+use crate::slices::pass_in_slices;
 use crate::tape_kinds::*;
 use crate::words::digest;
 use dual::Cleared;
+use dual::Pass;
 use dual::Passed;
 use dual::Read;
 use dual::clearing::reset_adjoints;
@@ -26,14 +30,26 @@ use tape::Operand;
 use tape::Refusal;
 use tape::Tape;
 
-// What the port answered, the node that it recorded, the tape after the call and, where a sequence has them, the
-// digests of all values and adjoints on it.
+// What the port answered, the node that it recorded, the tape after the call, how many slices were taken and, where a
+// sequence has them, the digests of all values and adjoints on the tape.
 pub struct Heard {
     pub answer: Said,
     pub node: Handle,
     pub tape: Tape,
+    pub slices: u64,
     pub values: u64,
     pub adjoints: u64,
+}
+
+// A call with its operands and what is supplied for them; a pass has the left one as its root, and is carried out in a
+// way, cut by the number of its line.
+pub struct Task {
+    pub kind: usize,
+    pub left: Operand,
+    pub right: Operand,
+    pub given: Supplied,
+    pub way: Way,
+    pub line: u64,
 }
 
 pub(crate) fn carry_out(
@@ -44,12 +60,12 @@ pub(crate) fn carry_out(
     count: &mut [u8],
     child: &mut [u16],
     partial: &mut [f64],
-    kind: usize,
-    left: Operand,
-    right: Operand,
-    given: Supplied,
+    task: Task,
 ) -> Heard {
-    if is_operation(kind) {
+    if is_operation(task.kind) {
+        let left = task.left;
+        let right = task.right;
+        let given = task.given;
         return after_recording(record(
             tape,
             value,
@@ -58,23 +74,13 @@ pub(crate) fn carry_out(
             count,
             child,
             partial,
-            operation(kind),
+            operation(task.kind),
             left,
             right,
             given,
         ));
     }
-    answer(
-        tape,
-        value,
-        adjoint,
-        serial,
-        count,
-        child,
-        partial,
-        kind,
-        left,
-    )
+    answer(tape, value, adjoint, serial, count, child, partial, task)
 }
 
 // A call that records nothing, and so writes no array but the adjoints.
@@ -86,13 +92,13 @@ fn answer(
     count: &[u8],
     child: &[u16],
     partial: &[f64],
-    kind: usize,
-    x: Operand,
+    task: Task,
 ) -> Heard {
+    let kind = task.kind;
     if is_pass(kind) {
-        let passed = pass(tape, value, adjoint, serial, count, child, partial, kind, x);
-        return after_pass(tape, passed);
+        return pass(tape, value, adjoint, serial, count, child, partial, task);
     }
+    let x = task.left;
     match kind {
         RESET_ADJOINTS => after_clearing(
             tape,
@@ -118,9 +124,39 @@ fn pass(
     count: &[u8],
     child: &[u16],
     partial: &[f64],
-    kind: usize,
-    root: Operand,
+    task: Task,
+) -> Heard {
+    let way = task.way;
+    if way.is_cut() {
+        return after_slices(pass_in_slices(
+            tape,
+            value,
+            adjoint,
+            serial,
+            count,
+            child,
+            partial,
+            pass_of(task),
+            task.line,
+            way.is_whole(),
+        ));
+    }
+    let passed = in_one_go(tape, value, adjoint, serial, count, child, partial, task);
+    after_pass(tape, passed)
+}
+
+fn in_one_go(
+    tape: Tape,
+    value: &[f64],
+    adjoint: &mut [f64],
+    serial: &[u64],
+    count: &[u8],
+    child: &[u16],
+    partial: &[f64],
+    task: Task,
 ) -> Passed {
+    let kind = task.kind;
+    let root = task.left;
     match kind {
         BACKWARD => backward(tape, value, adjoint, serial, count, child, partial, root),
         BACKWARD_TO_MARK => {
@@ -133,6 +169,18 @@ fn pass(
             propagate_to_mark(tape, value, adjoint, serial, count, child, partial)
         }
         _ => propagate_mark_to_start(tape, value, adjoint, serial, count, child, partial),
+    }
+}
+
+fn pass_of(task: Task) -> Pass {
+    let kind = task.kind;
+    let root = task.left;
+    match kind {
+        BACKWARD => Pass::Backward(root),
+        BACKWARD_TO_MARK => Pass::BackwardToMark(root),
+        BACKWARD_MARK_TO_START => Pass::BackwardMarkToStart(root),
+        PROPAGATE_TO_MARK => Pass::PropagateToMark,
+        _ => Pass::PropagateMarkToStart,
     }
 }
 
@@ -171,6 +219,12 @@ fn after_pass(tape: Tape, answer: Passed) -> Heard {
     }
 }
 
+fn after_slices(cut: Cut) -> Heard {
+    let mut heard = answered(cut.tape, cut.answer);
+    heard.slices = cut.slices;
+    heard
+}
+
 fn after_clearing(tape: Tape, answer: Cleared) -> Heard {
     match answer {
         Cleared::Done => answered(tape, NO_WORD),
@@ -198,6 +252,7 @@ fn answered(tape: Tape, answer: Said) -> Heard {
         answer,
         node: Handle::NEVER_LIVE,
         tape,
+        slices: 0,
         values: 0,
         adjoints: 0,
     }

@@ -1,5 +1,6 @@
 // What a list has cases of, and the names of its kinds of cases, each with a space after it. A kind is the place of its
 // name.
+use crate::slices::Way;
 use crate::tape_kinds;
 use crate::tape_kinds::KINDS;
 use crate::words::find;
@@ -11,11 +12,11 @@ pub const FORWARD: [u8; 155] =
 pub const TAPE: [u8; 275] =
     *b"leaf add sub mul div max min neg supplied_one supplied_two sqrt start_recording stop_recording set_mark reset_mark rewind_to_mark rewind_to_init backward backward_to_mark backward_mark_to_start propagate_to_mark propagate_mark_to_start reset_adjoints value adjoint end stale ";
 
-// Of forward numbers, of an order, of the tape, or of square roots alone.
+// Of forward numbers, of an order, of the tape, with its passes carried out in a way, or of square roots alone.
 pub enum Subject {
     Forward(usize),
     Table,
-    Sequences,
+    Sequences(Way),
     Stale,
     Roots,
 }
@@ -25,14 +26,33 @@ pub(crate) fn is_reported(subject: Subject, kind: usize, cases: u64) -> bool {
     match subject {
         Subject::Forward(_) => true,
         Subject::Table => tape_kinds::is_operation(kind) & is_met(kind, cases),
-        Subject::Sequences => (kind != tape_kinds::STALE) & is_met(kind, cases),
+        Subject::Sequences(way) => is_of_sequences(way, kind, cases),
         Subject::Stale => kind == tape_kinds::STALE,
         Subject::Roots => kind == tape_kinds::SQRT,
     }
 }
 
+// Where the passes are cut, for them and the stale calls that the list has, and no other kind.
+fn is_of_sequences(way: Way, kind: usize, cases: u64) -> bool {
+    if way.is_cut() {
+        return (tape_kinds::is_pass(kind) | (kind == tape_kinds::STALE)) & (cases > 0);
+    }
+    (kind != tape_kinds::STALE) & is_met(kind, cases)
+}
+
 fn is_met(kind: usize, cases: u64) -> bool {
     !tape_kinds::is_supplied(kind) | (cases > 0)
+}
+
+// How a list's passes are carried out.
+pub(crate) fn way_of(subject: Subject) -> Way {
+    match subject {
+        Subject::Forward(_) => Way::InOneGo,
+        Subject::Table => Way::InOneGo,
+        Subject::Sequences(way) => way,
+        Subject::Stale => Way::InOneGo,
+        Subject::Roots => Way::InOneGo,
+    }
 }
 
 // The kind of forward numbers that the line is of, or KINDS.

@@ -1,6 +1,7 @@
 // What is written to standard output.
 use crate::calls::BARE;
 use crate::calls::DETACHED;
+use crate::calls::LEFT;
 use crate::calls::REFUSED;
 use crate::calls::Said;
 use crate::calls::VISITED;
@@ -12,6 +13,7 @@ use crate::kinds::TAPE;
 use crate::nodes::Edge;
 use crate::nodes::Node;
 use crate::nodes::Outcome;
+use crate::slices::Way;
 use crate::tally::Count;
 use crate::tally::Tally;
 use crate::tape_kinds::is_digested;
@@ -93,6 +95,7 @@ fn said(answer: Said) {
         DETACHED => lettered(b" p", answer.bits),
         VISITED => count(b" v", answer.bits),
         REFUSED => count(b" refusal ", answer.bits),
+        LEFT => count(b" left ", answer.bits),
         _ => text(b""),
     }
 }
@@ -129,23 +132,39 @@ fn place(list: &[u8], at: u64) {
     text(b": ");
 }
 
-// How many cases there were of each kind, how many of them differ, and how many lines are no case.
+// How many cases there were of each kind, how many of them differ, and how many lines are no case or, where passes are
+// cut, how many slices were taken.
 pub(crate) fn summary(list: &[u8], subject: Subject, tally: Tally) {
     match subject {
         Subject::Forward(_) => each_kind(list, subject, &FORWARD, tally),
         Subject::Table => each_of_the_tape(list, subject, tally),
-        Subject::Sequences => each_of_the_tape(list, subject, tally),
+        Subject::Sequences(_) => each_of_the_tape(list, subject, tally),
         Subject::Stale => each_of_the_tape(list, subject, tally),
         Subject::Roots => each_of_the_tape(list, subject, tally),
     }
+    let way = kinds::way_of(subject);
     if tally.runs > 0 {
-        text(list);
+        title(list, way);
         counts(b" runs=", tally.runs, tally.broken_runs);
         text(b"\n");
     }
-    text(list);
-    count(b" malformed=", tally.malformed);
+    title(list, way);
+    if way.is_cut() {
+        count(b" slices=", tally.slices);
+    } else {
+        count(b" malformed=", tally.malformed);
+    }
     text(b"\n");
+}
+
+// The list's name, and in which way its passes are carried out.
+fn title(list: &[u8], way: Way) {
+    text(list);
+    match way {
+        Way::InOneGo => text(b""),
+        Way::InSlices => text(b" in slices"),
+        Way::Unfinished => text(b" unfinished"),
+    }
 }
 
 fn each_of_the_tape(list: &[u8], subject: Subject, tally: Tally) {
@@ -167,7 +186,7 @@ fn of_kind(list: &[u8], subject: Subject, name: &[u8], kind: usize, counted: Cou
     if !kinds::is_reported(subject, kind, counted.cases) {
         return;
     }
-    text(list);
+    title(list, kinds::way_of(subject));
     text(b" ");
     text(name);
     counts(b" cases=", counted.cases, counted.differ);

@@ -6,12 +6,14 @@ use crate::calls::REFUSED;
 use crate::calls::Said;
 use crate::carry_out;
 use crate::carry_out::Heard;
+use crate::carry_out::Task;
 use crate::carry_out::with_digests;
 use crate::nodes::NO_CHILD;
 use crate::nodes::NO_COUNT;
 use crate::nodes::UNLIKELY;
 use crate::nodes::supplied;
 use crate::report;
+use crate::slices::Way;
 use crate::tally::NOTHING;
 use crate::tally::Tally;
 use crate::tape_kinds;
@@ -38,6 +40,7 @@ const NOT_LIVE: u64 = 3;
 
 // How far a sequence has come.
 struct Run {
+    way: Way,
     tape: Tape,
     // Whether another call may come.
     going: bool,
@@ -47,7 +50,7 @@ struct Run {
     tally: Tally,
 }
 
-pub(crate) fn replay(list: &[u8], lines: &[u8], tally: Tally) -> Tally {
+pub(crate) fn replay(list: &[u8], way: Way, lines: &[u8], tally: Tally) -> Tally {
     let mut value = [UNLIKELY; CAPACITY];
     let mut adjoint = [UNLIKELY; CAPACITY];
     let mut serial = [1u64; CAPACITY];
@@ -57,7 +60,7 @@ pub(crate) fn replay(list: &[u8], lines: &[u8], tally: Tally) -> Tally {
     // Where the port put the node with each serial, which a list counts from 1 as the port does.
     let mut places = [0u16; NODES];
     let run = each_line(
-        Run::new(tally),
+        Run::new(way, tally),
         list,
         lines,
         &mut places,
@@ -124,8 +127,6 @@ fn one_line(
     if call.kind >= STALE {
         return run.malformed(list);
     }
-    let left = operand(&*places, call.left);
-    let right = operand(&*places, call.right);
     let heard = carry_out::carry_out(
         run.tape,
         value,
@@ -134,10 +135,7 @@ fn one_line(
         count,
         child,
         partial,
-        call.kind,
-        left,
-        right,
-        given(call),
+        run.task(call, &*places),
     );
     keep(places, heard.node);
     let digested = with_digests(heard, call.kind, &*value, &*adjoint);
@@ -190,12 +188,25 @@ fn keep(places: &mut [u16], node: Handle) {
 }
 
 impl Run {
-    fn new(tally: Tally) -> Run {
+    fn new(way: Way, tally: Tally) -> Run {
         Run {
+            way,
             tape: Tape::new(),
             going: true,
             broken: false,
             tally,
+        }
+    }
+
+    fn task(self, call: Call, places: &[u16]) -> Task {
+        let way = self.way;
+        Task {
+            kind: call.kind,
+            left: operand(places, call.left),
+            right: operand(places, call.right),
+            given: given(call),
+            way,
+            line: self.tally.lines,
         }
     }
 
@@ -249,6 +260,7 @@ impl Run {
     fn after(mut self, heard: Heard) -> Run {
         let tape = heard.tape;
         self.tape = tape;
+        self.tally = self.tally.more_slices(heard.slices);
         self
     }
 }

@@ -34,6 +34,7 @@ pub struct Tally {
     pub malformed: u64,
     pub runs: u64,
     pub broken_runs: u64,
+    pub slices: u64,
     pub counts: [Count; KINDS],
 }
 
@@ -45,6 +46,7 @@ impl Tally {
             malformed: 0,
             runs: 0,
             broken_runs: 0,
+            slices: 0,
             counts,
         }
     }
@@ -63,6 +65,11 @@ impl Tally {
     pub(crate) fn next_run(mut self, broken: bool) -> Tally {
         self.runs = raised(self.runs, true);
         self.broken_runs = raised(self.broken_runs, broken);
+        self
+    }
+
+    pub(crate) fn more_slices(mut self, taken: u64) -> Tally {
+        self.slices = sum(self.slices, taken);
         self
     }
 
@@ -91,8 +98,12 @@ impl Tally {
 }
 
 fn raised(count: u64, by_one: bool) -> u64 {
-    if !by_one {
-        return count;
+    sum(count, by_one as u64)
+}
+
+pub(crate) fn sum(count: u64, more: u64) -> u64 {
+    if more > u64::MAX - count {
+        return u64::MAX;
     }
-    if count < u64::MAX { count + 1 } else { count }
+    count + more
 }

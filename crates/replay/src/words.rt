@@ -116,7 +116,7 @@ pub(crate) fn digest(floats: &[f64], length: usize) -> u64 {
     sum
 }
 
-fn stirred(x: u64) -> u64 {
+pub(crate) fn stirred(x: u64) -> u64 {
     let a = x ^ (x << 13);
     let b = a ^ (a >> 7);
     b ^ (b << 17)

@@ -1,6 +1,4 @@
 -- A step is the first refusal of the table, or what the call does: as `step` says.
-use Prim.Native.Nat.{ℕ}
-use native.Mathlib.Omega.{arith}
 use mathlib.Core.Path.{_≡_, refl, sym, ap, _∙_}
 use mathlib.Core.Bool.{true}
 use mathlib.Core.Option.{Option, none, some}
@@ -11,7 +9,7 @@ use Rattle.tape.specs.Calls.{Call, carried}
 use Rattle.tape.specs.Refusals.{refusal-of}
 use Rattle.tape.specs.Steps.{unless, step}
 use Rattle.tape.specs.declared.errors.Refusal.{Refusal}
-use Rattle.tape.proofs.OneToOne.{by-number, at-refusal, one-to-one}
+use Rattle.tape.proofs.OneToOne.{never-nought, one-to-one}
 use Rattle.tape.proofs.Passes.{carried-number}
 use Rattle.tape.proofs.Steps.{by-table}
 use Rattle.revolutions.specs.Answered.{among, listed, Demand1}
@@ -20,18 +18,16 @@ stepped : {N : Numbers} (c : Call N) (M : Machine N) (o : Option Refusal) → re
 unfolding step
 stepped c M o e = ap (λ o. unless o M (carried c M)) e
 
--- no refusal has number 0
-not-nought : (r : Refusal) → number r ≡ 0 → ⊥
-not-nought r e = let z : _≡_ {A = ℕ} 0 1 = sym (at-refusal 1 (λ _. 0) r) ∙ ap (by-number 1 (λ _. 0)) e in omega arith
-
 -- the number of what a first refusal, or none, gives
 then : {N : Numbers} (c : Call N) (M : Machine N) (o : Option Refusal) (r : Refusal) → unless o M (carried c M) .0 .number ≡ number r → o ≡ some r
-then c M none r e = absurd (not-nought r (sym e ∙ carried-number c M))
+then c M none r e = absurd (never-nought r (sym e ∙ carried-number c M))
 then c M (some q) r e = ap some (one-to-one .numbers q r e)
 
 listed-so : {N : Numbers} (c : Call N) (M : Machine N) (r : Refusal) → refusal-of c M ≡ some r → among (number r) listed ≡ true
 listed-so c M = by-table (λ r. among (number r) listed ≡ true) c M (record {
   misshapen = refl;
+  out-of-turn = λ _. refl;
+  unfit = refl;
   unknown = refl;
   not-live = λ h. refl;
   detached = refl;

@@ -13,7 +13,7 @@ use Rattle.tape.specs.Machine.{Machine}
 use Rattle.tape.specs.Handles.{Operand, plain, node}
 use Rattle.tape.specs.Operations.{one-sided}
 use Rattle.tape.specs.Calls.{Call, operate}
-use Rattle.revolutions.specs.Revolutions.{Operation, Revolution, Session, ResolvedOperand, in-model, own, number, resolve-operand, ResolvedOperation, resolve-operation, ResolvedRevolution, resolve-revolution, ResolvedSession, resolve, recordings, revolution-calls, calls, without-reads, AtOrPast}
+use Rattle.revolutions.specs.Revolutions.{Operation, Revolution, Session, ResolvedOperand, in-model, own, number, resolve-operand, ResolvedOperation, resolve-operation, ResolvedRevolution, resolve-revolution, ResolvedSession, resolve, recordings, revolution-calls, calls, all-in-one-go, AtOrPast}
 use Rattle.revolutions.proofs.Fitting.{Placed, Proper, AllProper, AllTurns, Fitting}
 
 -- ---- the session
@@ -41,18 +41,18 @@ session M resolved =
     let k = M .state .next in
     record { model = map (operation 0 k k) (resolved .model); revolutions = revolutions m k (k + m) (resolved .revolutions) }
 
--- ---- a session has no reads
+-- ---- its calls are in one go
 
-recordings-read-nothing : {N : Numbers} (os : List (Operation N)) (cs : List (Call N)) → without-reads (recordings os ++ cs) ≡ recordings os ++ without-reads cs
-recordings-read-nothing [] cs = refl
-recordings-read-nothing (o ∷ os) cs = λ i. operate (o .operation) (o .left) (o .right) (o .supplied) ∷ recordings-read-nothing os cs i
+recordings-in-one-go : {N : Numbers} (os : List (Operation N)) (cs : List (Call N)) → all-in-one-go (recordings os ++ cs) ≡ recordings os ++ all-in-one-go cs
+recordings-in-one-go [] cs = refl
+recordings-in-one-go (o ∷ os) cs = λ i. operate (o .operation) (o .left) (o .right) (o .supplied) ∷ recordings-in-one-go os cs i
 
-turns-read-nothing : {N : Numbers} (rs : List (Revolution N)) (cs : List (Call N)) → without-reads (revolution-calls rs ++ cs) ≡ revolution-calls rs ++ without-reads cs
-turns-read-nothing [] cs = refl
-turns-read-nothing (r ∷ rs) cs = simp (append-assoc, recordings-read-nothing (r .operations), turns-read-nothing rs cs)
+turns-in-one-go : {N : Numbers} (rs : List (Revolution N)) (cs : List (Call N)) → all-in-one-go (revolution-calls rs ++ cs) ≡ revolution-calls rs ++ all-in-one-go cs
+turns-in-one-go [] cs = refl
+turns-in-one-go (r ∷ rs) cs = simp (append-assoc, recordings-in-one-go (r .operations), turns-in-one-go rs cs)
 
-pub nothing-read : {N : Numbers} (s : Session N) → without-reads (calls s) ≡ calls s
-nothing-read s = rw (recordings-read-nothing (s .model), turns-read-nothing (s .revolutions))
+pub nothing-cut : {N : Numbers} (s : Session N) → all-in-one-go (calls s) ≡ calls s
+nothing-cut s = rw (recordings-in-one-go (s .model), turns-in-one-go (s .revolutions))
 
 -- ---- what it resolves to
 

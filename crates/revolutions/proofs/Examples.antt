@@ -14,7 +14,7 @@ use Rattle.tape.specs.Answers.{Answer}
 use Rattle.tape.specs.Steps.{step, run}
 use Rattle.tape.specs.Passes.{Unrefused}
 use Rattle.revolutions.specs.Revolutions.{resolve, calls}
-use Rattle.revolutions.specs.Examples.{three, three-calls, before, swapped, first-only, in-recording-order, idle, bits, Example, Overlapping, ApartHere, Cut}
+use Rattle.revolutions.specs.Examples.{three, three-calls, before, swapped, first-only, in-recording-order, idle, bits, Example, Overlapping, ApartHere, Cut, all-cut, walking, unfinished, InSlices}
 
 -- two lists whose first numbers have other bits
 unlike : (xs ys : List Float) (k l : ℕ) → getD (bits xs) 0 0 ≡ k → getD (bits ys) 0 0 ≡ l → ¬ (k ≡ l) → ¬ (xs ≡ ys)
@@ -28,7 +28,7 @@ none-refused (a ∷ rest) e = let both = and-eq-true-iff (eqb (a .number) 0) _ .
 pub example : Example
 unfolding step add sub mul div neg lt le ofInt ofBits toBits
 example = record {
-  runs = record { session = refl; unrefused = none-refused (run three-calls before .0) refl; roots = (omega arith, (omega arith, (omega arith, tt))) };
+  runs = record { session = refl; unrefused = none-refused (run three-calls before .0) refl; over = refl; roots = (omega arith, (omega arith, (omega arith, tt))) };
   adjoints = refl;
   long = refl;
   not-first-only = unlike _ (first-only (resolve three)) _ _ refl refl (λ e. omega arith);
@@ -38,7 +38,7 @@ example = record {
 
 pub overlapping : Overlapping
 unfolding step add sub mul div neg lt le ofInt ofBits toBits
-overlapping = record { runs = record { session = refl; unrefused = none-refused (run (calls swapped) before .0) refl; roots = (omega arith, (omega arith, (omega arith, tt))) }; adjoints = refl; resolves = refl; swapped-resolves = refl; changed = unlike _ _ _ _ refl refl (λ e. omega arith); not-apart = λ apart. true≢false (apart 1 (omega arith)) }
+overlapping = record { runs = record { session = refl; unrefused = none-refused (run (calls swapped) before .0) refl; over = refl; roots = (omega arith, (omega arith, (omega arith, tt))) }; adjoints = refl; resolves = refl; swapped-resolves = refl; changed = unlike _ _ _ _ refl refl (λ e. omega arith); not-apart = λ apart. true≢false (apart 1 (omega arith)) }
 
 pub apart-here : ApartHere
 unfolding add sub mul div neg lt le ofInt ofBits
@@ -49,3 +49,14 @@ apart-here (suc (suc i)) h = absurd (omega arith)
 pub cut : Cut
 unfolding step add sub mul div neg lt le ofInt ofBits toBits
 cut = record { whole = refl; last-part-first = refl; first-part-first = refl }
+
+pub in-slices : InSlices
+unfolding step add sub mul div neg lt le ofInt ofBits toBits
+in-slices = record {
+  runs = record { session = refl; unrefused = none-refused (run all-cut walking .0) refl; over = refl; roots = (omega arith, (omega arith, (omega arith, tt))) };
+  adjoints = refl;
+  unfinished-so = refl;
+  unfinished-session = refl;
+  unfinished-unrefused = none-refused (run unfinished walking .0) refl;
+  unfinished-adjoints = refl;
+}

@@ -11,9 +11,10 @@ use lib.Seq.{length-take-le, take-all, take-take, take-append-seam, take-at, dro
 use Rattle.tape.specs.Numbers.{Numbers}
 use Rattle.tape.specs.Walk.{Edge, walk}
 use Rattle.tape.proofs.Passes.{walk-append}
+use Rattle.tape.proofs.Passes.{length-walk}
 use Rattle.revolutions.specs.Folded.{Part, seed, folded, folded-all, one-by-one, up, placed, all-seeds, at-once, OnLists}
 use Rattle.revolutions.specs.Trading.{goes}
-use Rattle.revolutions.proofs.Walks.{insert, length-walk, take-walk, walk-insert, walk-alike, walk-aside}
+use Rattle.revolutions.proofs.Walks.{insert, take-walk, walk-insert, walk-alike, walk-aside}
 
 -- ---- lengths
 

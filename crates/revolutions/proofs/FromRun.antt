@@ -1,5 +1,5 @@
 -- A session that runs resolves to one that fits: what follows from none of its calls being refused.
-use Prim.Native.Nat.{ℕ, suc, _+_}
+use Prim.Native.Nat.{ℕ, suc, _+_, zero-le}
 use native.Mathlib.Nat.{add-zero, add-suc, suc-add, zero-add}
 use native.Mathlib.Omega.{arith}
 use mathlib.Core.Path.{_≡_, refl}
@@ -10,19 +10,19 @@ use borrow.Author.Tests.{ltb-true, ltb-false, eqb-false, not-false}
 use lib.Dec.{ltb}
 use lib.ListN.{length, length-map}
 use Rattle.tape.specs.Numbers.{Numbers}
-use Rattle.tape.specs.Machine.{Arrays, Machine, capacity}
+use Rattle.tape.specs.Machine.{Arrays, Machine, capacity, most-nodes}
 use Rattle.tape.specs.Handles.{Operand, plain, node, handles}
 use Rattle.tape.specs.Operations.{one-sided}
-use Rattle.tape.specs.Calls.{Call, move, start, set-mark, rewind-to-mark, operate, clear, pass, backward-to-mark, propagate-mark-to-start}
+use Rattle.tape.specs.Calls.{Call, move, start, set-mark, rewind-to-mark, operate, clear, pass, slice, backward-to-mark, propagate-mark-to-start, carried}
 use Rattle.tape.specs.Refusals.{first-amiss, last-serial}
 use Rattle.tape.specs.Steps.{step, run}
 use Rattle.tape.specs.Kept.{after}
 use Rattle.tape.specs.Passes.{Unrefused}
 use Rattle.tape.proofs.Passes.{Accepted, accepted}
-use Rattle.tape.proofs.Steps.{shape, known, all-live, serial, first-live}
-use Rattle.tape.proofs.Tests.{by-test, fit}
-use Rattle.revolutions.specs.Revolutions.{Operation, Revolution, Session, number, resolve-operand, resolve-operation, resolve-revolution, resolve, recordings, revolution-calls, calls, AtOrPast, RunsAs}
-use Rattle.revolutions.proofs.Runs.{reads-left-out, unrefused-parts}
+use Rattle.tape.proofs.Steps.{Passed, shape, known, all-live, serial, first-live}
+use Rattle.tape.proofs.Tests.{by-test, Fit, fit, state-fit-so}
+use Rattle.revolutions.specs.Revolutions.{Operation, Revolution, Session, number, resolve-operand, resolve-operation, resolve-revolution, ResolvedSession, resolve, recordings, revolution-calls, calls, AtOrPast, RunsAs}
+use Rattle.revolutions.proofs.Runs.{unrefused-parts, session-from-start}
 use Rattle.revolutions.proofs.Fitting.{Placed, Proper, AllProper, AllTurns, recorded-by, Spared, Fitting}
 use Rattle.revolutions.proofs.Standing.{Stands, started, recorded, marked, cleared, walked, rewound}
 
@@ -97,7 +97,7 @@ module _ {N : Numbers} {A : Arrays N} {m first : ℕ} where
 
 -- ---- the session
 
--- with no reads among its calls
+-- with its calls in one go
 fitting : {N : Numbers} (s : Session N) (M : Machine N) → AtOrPast (length (s .model)) (s .revolutions) → Unrefused (run (calls s) M .0) → Fitting M (resolve s)
 fitting s M roots (u, us) =
     let os = s .model in
@@ -114,13 +114,36 @@ fitting s M roots (u, us) =
     let n = length-map os (resolve-operation 0) in
     record {
       state = shape (a .passed);
-      arrays = omega arith;
+      arrays = record {
+        small = omega arith;
+        adjoint = omega arith;
+        serial = omega arith;
+        count = omega arith;
+        child = omega arith;
+        partial = omega arith;
+        state = record { length = zero-le; mark = zero-le; next = omega arith; walk = refl };
+      };
       model = t .operations;
       room = omega arith;
       revolutions = rw n (more .0);
       serials = λ h. omega (arith, more .1 (omega (arith, t .serials (omega arith))));
     }
 
--- with reads among them
+-- before the start there may be slices of a walk that was open
+over-a-slice : {N : Numbers} (resolved : ResolvedSession N) (n : ℕ) (L : Machine N) → Passed (slice n) L → Fitting (carried (slice n) L .1) resolved → Fitting L resolved
+over-a-slice resolved n L p f =
+    let g : Fit L = fit L (shape p) in
+    record {
+      state = state-fit-so most-nodes (L .state) (record { length = omega arith; mark = omega arith; next = g .state .next; walk = g .state .walk });
+      arrays = record { small = g .small; adjoint = g .adjoint; serial = g .serial; count = g .count; child = g .child; partial = g .partial; state = record { length = zero-le; mark = zero-le; next = g .state .next; walk = refl } };
+      model = f .model;
+      room = f .room;
+      revolutions = f .revolutions;
+      serials = f .serials;
+    }
+
+-- with reads among them, and passes cut
 pub runs-fitting : {N : Numbers} (s : Session N) (cs : List (Call N)) (M : Machine N) → RunsAs s cs M → Fitting M (resolve s)
-runs-fitting s cs M p = fitting s M (p .roots) (rw (p .session) at (reads-left-out cs M (p .unrefused) .unrefused))
+runs-fitting s cs M p =
+    let f = session-from-start s cs M p in
+    f .back (λ L. Fitting L (resolve s)) (over-a-slice (resolve s)) (fitting s (f .found) (p .roots) (f .left .unrefused))

@@ -1,6 +1,6 @@
 -- The statements of specs/, each with its proof.
 use Rattle.revolutions.specs.Answered.{Demand1}
-use Rattle.revolutions.specs.Examples.{Example, Overlapping, ApartHere, Cut}
+use Rattle.revolutions.specs.Examples.{Example, Overlapping, ApartHere, Cut, InSlices}
 use Rattle.revolutions.specs.Folded.{OnLists}
 use Rattle.revolutions.specs.Revolutions.{Demand3}
 use Rattle.revolutions.specs.Trading.{TradingPlaces}
@@ -36,6 +36,9 @@ apart-here = examples.apart-here
 
 cut : Cut
 cut = examples.cut
+
+in-slices : InSlices
+in-slices = examples.in-slices
 
 proved-table : ProvedTable
 proved-table = table.proved-table

@@ -4,24 +4,24 @@ use native.Mathlib.Nat.{zero-add}
 use native.Mathlib.Omega.{arith}
 use mathlib.Core.Path.{_≡_, refl, sym, _∙_}
 use mathlib.Core.Bool.{true, true≢false}
-use mathlib.Core.List.{List, [], _∷_, _++_, map}
+use mathlib.Core.List.{List, _++_, map}
 use borrow.Author.Tests.{eqb-false}
 use lib.ListN.{length, getD, drop, replicate, length-set, length-append, length-replicate, length-drop}
 use lib.Seq.{getD-set-same, getD-set-other, length-sets}
 use Rattle.tape.specs.Numbers.{Numbers}
 use Rattle.tape.specs.Machine.{Arrays, Machine, machine, capacity, slot, most-nodes}
-use Rattle.tape.specs.Handles.{Operand, plain, node, operand-value}
+use Rattle.tape.specs.Handles.{Operand, operand-value}
 use Rattle.tape.specs.Operations.{Given, apply}
-use Rattle.tape.specs.Walk.{Edge, edges-at}
+use Rattle.tape.specs.Walk.{Edge}
 use Rattle.tape.specs.Answers.{Answer}
-use Rattle.tape.specs.Calls.{Call, Pass, move, start, set-mark, rewind-to-mark, operate, clear, pass, edges, with-adjoints, written, Plan, plan, range, seeded, walked as passed-back, carried}
+use Rattle.tape.specs.Calls.{Call, Pass, move, start, set-mark, rewind-to-mark, operate, clear, pass, edges, with-adjoints, written, plan, carried}
 use Rattle.tape.specs.Steps.{step}
+use Rattle.tape.specs.Slices.{Over}
 use Rattle.tape.specs.declared.tape.Tape.{Tape}
-use Rattle.tape.proofs.Passes.{Accepted}
+use Rattle.tape.proofs.Passes.{Accepted, length-walked}
 use Rattle.tape.proofs.Recording.{SoundNodes, sound-kept}
 use Rattle.tape.proofs.Steps.{shape, room, effect, last-or-below}
 use Rattle.tape.proofs.Tests.{by-test, Fit, fit, state-fit}
-use Rattle.revolutions.proofs.Walks.{length-walk}
 
 -- ---- lengths
 
@@ -33,15 +33,6 @@ pub record Alike {N : Numbers} (A B : Arrays N) : Type 0 where
   pub count : length (B .count) ≡ length (A .count)
   pub child : length (B .child) ≡ length (A .child)
   pub partial : length (B .partial) ≡ length (A .partial)
-
--- a pass leaves the number of adjoints
-length-seeded : {N : Numbers} (os : List (Operand N)) (s : List (N .Number)) → length (seeded os s) ≡ length s
-length-seeded [] s = refl
-length-seeded (plain x ∷ os) s = length-seeded os s
-length-seeded (node h ∷ os) s = length-seeded os _ ∙ length-set s _ _
-
-length-walked : {N : Numbers} (P : Plan N) (L : Machine N) → length (passed-back P L .lent .adjoint) ≡ length (L .lent .adjoint)
-length-walked P L = length-walk (P .from) (map (edges-at (L .lent)) (range P)) (seeded (P .root) (L .lent .adjoint)) ∙ length-seeded (P .root) (L .lent .adjoint)
 
 -- a node that is written leaves the arrays as long as they were
 written-alike : {N : Numbers} (L : Machine N) (v : N .Number) (es : List (Edge N)) → Alike (L .lent) (written L v es .lent)
@@ -74,13 +65,14 @@ pub record Counted {N : Numbers} (A : Arrays N) (m first k j : ℕ) (L : Machine
   pub not-nought : 0 < first
   pub in-order : first ≤ k
 
--- these serials are stored there, and every node is sound
+-- these serials are stored there, every node is sound, and no walk is open
 pub record Stands {N : Numbers} (A : Arrays N) (m first k j : ℕ) (L : Machine N) : Type 0 where
   pub counted : Counted A m first k j L
   pub active : L .state .active ≡ true
   pub models : (i : ℕ) → i < m → getD (L .lent .serial) i 0 ≡ first + i
   pub owns : (i : ℕ) → i < j → getD (L .lent .serial) (m + i) 0 ≡ k + i
   pub sound : SoundNodes L
+  pub over : Over L
 
 -- what holds of the machine that an accepted call leaves; its nodes are still sound
 onward : {N : Numbers} (P : Machine N → Type 0) (c : Call N) (L : Machine N) → Accepted c L (step c L) → SoundNodes L → (SoundNodes (carried c L .1) → P (carried c L .1)) → P (step c L .1)
@@ -90,16 +82,25 @@ onward P c L a is so = rw (a .carries) (so (rw (a .carries) at (sound-kept L (st
 pub started : {N : Numbers} (M : Machine N) → Accepted (move start) M (step (move start) M) → Stands (M .lent) 0 (M .state .next) (M .state .next) 0 (step (move start) M .1)
 started M a =
     let f = state-fit most-nodes (M .state) (shape (a .passed)) in
-    rw (a .carries) (record { counted = omega arith; active = refl; models = λ i h. absurd (omega arith); owns = λ i h. absurd (omega arith); sound = λ i h. absurd (omega arith) })
+    rw (a .carries) (record { counted = omega arith; active = refl; models = λ i h. absurd (omega arith); owns = λ i h. absurd (omega arith); sound = λ i h. absurd (omega arith); over = refl })
 
 module _ {N : Numbers} {A : Arrays N} {m first k j : ℕ} {L : Machine N} (s : Stands A m first k j L) where
   -- its shape is right where that of a machine on the arrays A is
   pub stands-fit : {t : Tape} → Fit (machine t A) → Fit L
-  stands-fit f = omega arith
+  stands-fit f =
+      record {
+        small = omega arith;
+        adjoint = omega arith;
+        serial = omega arith;
+        count = omega arith;
+        child = omega arith;
+        partial = omega arith;
+        state = record { length = omega arith; mark = omega arith; next = omega arith; walk = rw (s .over) };
+      }
 
   -- with other adjoints, as many of them
   re-adjoined : (a : List (N .Number)) → length a ≡ length (L .lent .adjoint) → SoundNodes (with-adjoints L a) → Stands A m first k j (with-adjoints L a)
-  re-adjoined a e is = record { counted = omega arith; active = s .active; models = s .models; owns = s .owns; sound = is }
+  re-adjoined a e is = record { counted = omega arith; active = s .active; models = s .models; owns = s .owns; sound = is; over = s .over }
 
   pub cleared : Accepted clear L (step clear L) → Stands A m first k j (step clear L .1)
   cleared a =
@@ -122,6 +123,7 @@ module _ {N : Numbers} {A : Arrays N} {m first k j : ℕ} {L : Machine N} (s : S
         models = λ i b. old i (omega arith) ∙ s .models i b;
         owns = λ i b. last-or-below (λ i. getD serials (m + i) 0 ≡ k + i) j new (λ i b. old (m + i) (omega arith) ∙ s .owns i b) i (omega arith);
         sound = is;
+        over = s .over;
       }
 
   pub recorded : (op : ℕ) (left right : Operand N) (g : Given N) → let c = operate op left right g in Accepted c L (step c L) → Stands A m first k (suc j) (step c L .1)
@@ -137,10 +139,10 @@ module _ {N : Numbers} {A : Arrays N} {m first k j : ℕ} {L : Machine N} (s : S
   pub rewound : Accepted (move rewind-to-mark) L (step (move rewind-to-mark) L) → Stands A m first (k + j) 0 (step (move rewind-to-mark) L .1)
   rewound a =
       onward (Stands A m first (k + j) 0) (move rewind-to-mark) L a (s .sound)
-      (λ is. record { counted = omega arith; active = s .active; models = s .models; owns = λ i h. absurd (omega arith); sound = is })
+      (λ is. record { counted = omega arith; active = s .active; models = s .models; owns = λ i h. absurd (omega arith); sound = is; over = s .over })
 
 -- the model's own nodes, with the mark set behind them, are the model
 pub marked : {N : Numbers} {A : Arrays N} {k j : ℕ} {L : Machine N} → Stands A 0 k k j L → Accepted (move set-mark) L (step (move set-mark) L) → Stands A j k (k + j) 0 (step (move set-mark) L .1)
 marked {A = A} {k} {j} {L} s a =
     onward (Stands A j k (k + j) 0) (move set-mark) L a (s .sound)
-    (λ is. record { counted = omega arith; active = s .active; models = λ i h. rw zero-add at (s .owns i h); owns = λ i h. absurd (omega arith); sound = is })
+    (λ is. record { counted = omega arith; active = s .active; models = λ i h. rw zero-add at (s .owns i h); owns = λ i h. absurd (omega arith); sound = is; over = s .over })

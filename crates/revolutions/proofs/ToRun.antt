@@ -2,7 +2,7 @@
 use Prim.Native.Nat.{ℕ, suc, _+_, _≤_, _<_}
 use native.Mathlib.Nat.{zero-add}
 use native.Mathlib.Omega.{arith}
-use mathlib.Core.Path.{_≡_, refl}
+use mathlib.Core.Path.{_≡_, refl, sym, subst}
 use mathlib.Core.Bool.{Bool, true, false, cond}
 use mathlib.Core.List.{List, [], _∷_, _++_, map, append-assoc}
 use mathlib.Core.Option.{none}
@@ -12,54 +12,74 @@ use Rattle.tape.specs.Numbers.{Numbers}
 use Rattle.tape.specs.Machine.{Arrays, Machine, machine, capacity, most-nodes}
 use Rattle.tape.specs.Handles.{Operand, live, handles, any-plain}
 use Rattle.tape.specs.Operations.{one-sided}
-use Rattle.tape.specs.Calls.{Call, Move, move, start, set-mark, rewind-to-mark, operate, clear, Pass, pass, backward-to-mark, propagate-mark-to-start, plan}
-use Rattle.tape.specs.Admission.{fits}
-use Rattle.tape.specs.Refusals.{first-amiss, refusal-of, last-serial}
+use Rattle.tape.specs.Calls.{Move, move, start, stop, set-mark, reset-mark, rewind-to-mark, rewind-to-init, operate, clear, Pass, pass, backward-to-mark, propagate-mark-to-start, plan}
+use Rattle.tape.specs.Admission.{fits, while-closed, in-turn, slice-fits}
+use Rattle.tape.specs.Refusals.{mover, first-amiss, last-serial}
 use Rattle.tape.specs.Steps.{step, run}
 use Rattle.tape.specs.Kept.{after}
 use Rattle.tape.specs.Passes.{Unrefused}
+use Rattle.tape.specs.declared.admission.Caller.{Caller}
+use Rattle.tape.specs.declared.admission.Caller.the-variants as caller
 use Rattle.tape.specs.declared.tape.Tape.{Tape}
-use Rattle.tape.proofs.Passes.{Accepted, carried-number, range-sound}
+use Rattle.tape.specs.declared.tape.Walk.{Walk}
+use Rattle.tape.specs.declared.tape.Walk.the-variants.{Closed, Open}
+use Rattle.tape.proofs.Passes.{Accepted, passes, answers, range-sound}
 use Rattle.tape.proofs.Steps.{mover-unlent, lives-so}
 use Rattle.tape.proofs.Tests.{Fit, refits, state-fit-so}
 use Rattle.revolutions.specs.Revolutions.{ResolvedOperand, in-model, own, number, ResolvedOperation, ResolvedRevolution, ResolvedSession, recordings, revolution-calls, calls}
 use Rattle.revolutions.specs.Trading.{Runnable}
-use Rattle.revolutions.proofs.Runs.{unrefused-append}
+use Rattle.revolutions.proofs.Runs.{unrefused-append, session-over}
 use Rattle.revolutions.proofs.Fitting.{Placed, Proper, AllProper, AllTurns, recorded-by, Spared, Fitting}
 use Rattle.revolutions.proofs.Standing.{Stands, stands-fit, started, recorded, marked, cleared, walked, rewound}
 use Rattle.revolutions.proofs.FromRun.{from-run}
-use Rattle.revolutions.proofs.Chosen.{operand, operation, revolutions, session, nothing-read, roots, resolves}
+use Rattle.revolutions.proofs.Chosen.{operand, operation, revolutions, session, nothing-cut, roots, resolves}
 
 -- ---- one call
 
--- a call that no row refuses does what `carried` says
-passes : {N : Numbers} (c : Call N) (L : Machine N) → refusal-of c L ≡ none → Accepted c L (step c L)
-unfolding step
-passes c L e = record { passed = record { none-refuses = e }; carries = rw e }
+-- a move tests the state alone, and whether a walk is open
+moves-so : {N : Numbers} (c : Move) (L : Machine N) → fits false L ≡ true → in-turn (L .state .walk) (mover c) ≡ true → Accepted (move c) L (step (move c) L)
+moves-so c L shape turn = passes (move c) L (rw (mover-unlent c, shape, turn, no-slice c)) where
+  no-slice : (m : Move) → slice-fits (mover m) ≡ true
+  no-slice start = refl
+  no-slice stop = refl
+  no-slice set-mark = refl
+  no-slice reset-mark = refl
+  no-slice rewind-to-mark = refl
+  no-slice rewind-to-init = refl
 
--- and answers with number 0
-answers : {N : Numbers} {c : Call N} {L : Machine N} → Accepted c L (step c L) → step c L .0 .number ≡ 0
-answers {c = c} {L} a = rw (a .carries) (carried-number c L)
+-- each may come while none is, and a start while one is too
+may-come : (m : Move) → while-closed (mover m) ≡ true
+may-come start = refl
+may-come stop = refl
+may-come set-mark = refl
+may-come reset-mark = refl
+may-come rewind-to-mark = refl
+may-come rewind-to-init = refl
 
--- a move tests the state alone
-moves-so : {N : Numbers} (c : Move) (L : Machine N) → fits false L ≡ true → Accepted (move c) L (step (move c) L)
-moves-so c L shape = passes (move c) L (rw (mover-unlent c, shape))
+start-turn : (w : Walk) → in-turn w (mover start) ≡ true
+start-turn Closed = refl
+start-turn (Open s) = refl
 
 module _ {N : Numbers} {A : Arrays N} {m first k j : ℕ} {L : Machine N} {t : Tape} (f : Fit (machine t A)) (s : Stands A m first k j L) where
-  -- on such a machine no move is refused
+  -- on such a machine every call is in its turn but a slice, and no move is refused
+  turn : (c : Caller) → while-closed c ≡ true → in-turn (L .state .walk) c ≡ true
+  turn c e = subst (λ w. in-turn w c ≡ true) (sym (s .over)) e
+
   moves : (c : Move) → Accepted (move c) L (step (move c) L)
-  moves c = let g = stands-fit s f in moves-so c L (state-fit-so most-nodes (L .state) (omega arith))
+  moves c =
+      let g = stands-fit s f in
+      moves-so c L (state-fit-so most-nodes (L .state) (record { length = omega arith; mark = omega arith; next = g .state .next; walk = g .state .walk })) (turn (mover c) (may-come c))
 
   -- a call that is lent the arrays is not refused for its shape
   lent-fits : fits true L ≡ true
   lent-fits = let g = stands-fit s f in refits L (L .state) g (g .state)
 
   clears : Accepted clear L (step clear L)
-  clears = passes clear L (rw lent-fits)
+  clears = passes clear L (rw (lent-fits, turn caller.Clearing refl))
 
   walks : (p : Pass N) → first-amiss L (handles (plan p (L .state) .root)) ≡ none → any-plain (plan p (L .state) .root) ≡ false → Accepted (pass p) L (step (pass p) L)
   walks p root standing =
-      passes (pass p) L (rw (lent-fits, root, standing, range-sound L (s .sound) (pass p) (rw lent-fits) root))
+      passes (pass p) L (rw (lent-fits, turn caller.Passing refl, root, standing, range-sound L (s .sound) (pass p) (rw (lent-fits, turn caller.Passing refl)) root))
 
   -- a handle with the serial that is stored at its index
   alive : (i n : ℕ) → i < m + j → 0 < n → getD (L .lent .serial) i 0 ≡ n → live L (record { index = i; serial = n }) ≡ true
@@ -82,7 +102,7 @@ module _ {N : Numbers} {A : Arrays N} {m first k j : ℕ} {L : Machine N} {t : T
   operates d p room spared =
       passes _ L
       (rw
-      (lent-fits, p .operation, both-live (one-sided (d .operation)) (d .left) (d .right) (p .left) (p .right), s .active, ne-eqb (L .state .length) (capacity (L .lent)) (λ e. omega arith), s .active, ne-eqb (L .state .next) last-serial (λ e. spared (omega arith))))
+      (lent-fits, turn caller.Recording refl, p .operation, both-live (one-sided (d .operation)) (d .left) (d .right) (p .left) (p .right), s .active, ne-eqb (L .state .length) (capacity (L .lent)) (λ e. omega arith), s .active, ne-eqb (L .state .next) last-serial (λ e. spared (omega arith))))
 
 -- ---- operations one after another, and revolutions
 
@@ -121,7 +141,7 @@ module _ {N : Numbers} (M : Machine N) (resolved : ResolvedSession N) (f : Fitti
   session-runs =
       let k = M .state .next in
       let m = length (resolved .model) in
-      let a = moves-so start M (f .state) in
+      let a = moves-so start M (f .state) (start-turn (M .state .walk)) in
       let (unrefused, s₁) = all-run (f .arrays) 0 k k (resolved .model) _ (started M a) (f .model) (omega arith) (λ h. omega (arith, f .serials h)) in
       let b = moves (f .arrays) s₁ set-mark in
       let s₂ = marked s₁ b in
@@ -133,6 +153,6 @@ module _ {N : Numbers} (M : Machine N) (resolved : ResolvedSession N) (f : Fitti
   another =
       record {
         session = session M resolved;
-        runs = record { session = nothing-read (session M resolved); unrefused = session-runs; roots = roots M resolved };
+        runs = record { session = nothing-cut (session M resolved); unrefused = session-runs; over = session-over (session M resolved) M (session-runs .0); roots = roots M resolved };
         resolves = resolves M resolved f;
       }

@@ -16,14 +16,14 @@ use Rattle.tape.specs.Steps.{step, run}
 use Rattle.tape.specs.Kept.{after}
 use Rattle.tape.specs.Passes.{Unrefused}
 use Rattle.tape.specs.declared.node.Handle.{Handle}
-use Rattle.tape.proofs.Passes.{accepted}
+use Rattle.tape.proofs.Passes.{accepted, length-walk}
 use Rattle.tape.proofs.Steps.{all-live, first-live}
 use Rattle.revolutions.specs.Revolutions.{Revolution, Session, recordings, revolution-calls, calls, resolve-operation, ResolvedOperation, ResolvedRevolution, resolve-revolution, ResolvedSession, resolve, Node, nodes, AtOrPast, RunsAs, model-adjoints}
 use Rattle.revolutions.specs.Folded.{Part, seed, folded, folded-all, one-by-one}
 use Rattle.revolutions.proofs.Held.{Holds, started, mark-set, adjoints-set, rewound, whole, high-part}
 use Rattle.revolutions.proofs.Recorded.{recorded}
-use Rattle.revolutions.proofs.Runs.{after-append, unrefused-parts, Left, reads-left-out}
-use Rattle.revolutions.proofs.Walks.{length-walk, take-walk, alter-second}
+use Rattle.revolutions.proofs.Runs.{after-append, unrefused-parts, session-from-start}
+use Rattle.revolutions.proofs.Walks.{take-walk, alter-second}
 
 -- a node for each operation
 pub length-nodes : {N : Numbers} (b : ℕ) (models owns : List (N .Number)) (ds : List (ResolvedOperation N)) → length (nodes b models owns ds) ≡ length ds
@@ -163,8 +163,8 @@ module _ {N : Numbers} (s : Session N) where
       let size : step (pass propagate-mark-to-start) M₄ .1 .state .length ≡ m = sym (h₅ .long) ∙ values in
       rw (end, nodes, values) (rw size at (h₅ .adjoint))
 
--- with reads and listings between
+-- with passes cut, and reads and listings between
 pub by-turns : {N : Numbers} (s : Session N) (cs : List (Call N)) (M : Machine N) → RunsAs s cs M → model-adjoints s cs M ≡ summed (resolve s)
 by-turns s cs M p =
-    let left : Left (calls s) M (after cs M) = rw (p .session) at (reads-left-out cs M (p .unrefused)) in
-    rw (← left .machine) (played s M (p .roots) (left .unrefused))
+    let f = session-from-start s cs M p in
+    rw (← f .left .machine) (played s (f .found) (p .roots) (f .left .unrefused))

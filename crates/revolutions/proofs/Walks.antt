@@ -13,6 +13,7 @@ use lib.ListN.{length, getD, set, take, drop, length-take, length-set, List·get
 use lib.Seq.{length-take-le, set-out, getD-set-other, take-set-le, take-set-lt, drop-set-lt, drop-set-add, set-append-left, getD-take, getD-drop, getD-append-add}
 use Rattle.tape.specs.Numbers.{Numbers}
 use Rattle.tape.specs.Walk.{Edge, push, walk}
+use Rattle.tape.proofs.Passes.{length-walk}
 use Rattle.tape.proofs.Tests.{or-false}
 use Rattle.revolutions.specs.Trading.{to, goes}
 use Rattle.revolutions.specs.Folded.{up}
@@ -83,17 +84,6 @@ module _ {A : Type 0} (d : A) (m : ℕ) (put : List A) (s : List A) (l : m ≤ l
         let there : c + length put ≡ length (take m s) + (length put + (c - m)) = omega (arith, first) in
         let back : m + (c - m) ≡ c = omega arith in
         rw (le-ltb c m past, there, alter-second d f (take m s) (put ++ drop m s) (length put + (c - m)), alter-second d f put (drop m s) (c - m), ← alter-drop d f m s (c - m), back, take-set-le m s c (f (getD s c d)) past)
-
--- ---- lengths
-
-module _ {N : Numbers} where
-  length-push : (a : N .Number) (es : List (Edge N)) (s : List (N .Number)) → length (push a es s) ≡ length s
-  length-push a [] s = refl
-  length-push a (e ∷ es) s = length-push a es _ ∙ length-set s (e .child) _
-
-  pub length-walk : (i : ℕ) (ns : List (List (Edge N))) (s : List (N .Number)) → length (walk i ns s) ≡ length s
-  length-walk i [] s = refl
-  length-walk i (es ∷ above) s = length-push _ es (walk (suc i) above s) ∙ length-walk (suc i) above s
 
 -- ---- the first m, walked alone
 

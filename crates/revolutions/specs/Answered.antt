@@ -4,7 +4,8 @@
 -- No step, and so not spoken of here, are the public functions that make a state or a number (`Tape::new`,
 -- `Refusal::number`, `bits_of`) and those that calls are made of: `Handle::lookup` and `Handle::usable` answer
 -- `looked-up` and `usable-as` (crates/tape/specs/Handles.antt), `Lengths::of` and `Tape::admit` answer `lengths` and
--- `admitted (admission ..)` (crates/tape/specs/Admission.antt).
+-- `admitted (admission ..)` (crates/tape/specs/Admission.antt), `Tape::walking` answers `with-walk (walk-left ..)`
+-- (crates/tape/specs/Machine.antt).
 use Prim.Native.Nat.{ℕ}
 use mathlib.Core.Path.{_≡_}
 use mathlib.Core.Bool.{Bool, true, false, _||_}
@@ -25,14 +26,14 @@ among k (n ∷ ns) = eqb n k || among k ns
 
 -- document 01's list of refusals
 abbrev pub listed : List ℕ
-listed = 1 ∷ 2 ∷ 3 ∷ 4 ∷ 5 ∷ 6 ∷ 7 ∷ 8 ∷ []
+listed = 1 ∷ 2 ∷ 3 ∷ 4 ∷ 5 ∷ 6 ∷ 7 ∷ 8 ∷ 12 ∷ 13 ∷ []
 
 -- Proved in proofs/Answered.antt
 pub record Demand1 : Type 1 where
-  -- if a row of the table refuses, the first one's number is returned, value +0.0, no handle and count 0, and the
-  -- machine is as it was
+  -- if a row of the table refuses, the first one's number is returned, value +0.0, no handle, count 0 and nodes left 0,
+  -- and the machine is as it was
   pub refused : {N : Numbers} (c : Call N) (M : Machine N) (r : Refusal) → refusal-of c M ≡ some r
-      → step c M ≡ (answer (number r) (N .nought) none 0, M)
+      → step c M ≡ (answer (number r) (N .nought) none 0 0, M)
   -- if none does, the call is carried out, and its answer has number 0
   pub answered : {N : Numbers} (c : Call N) (M : Machine N) → refusal-of c M ≡ none
       → (step c M ≡ carried c M) × (step c M .0 .number ≡ 0)

@@ -1,20 +1,23 @@
--- What demand 3 says of one session of three revolutions, in bits, and what would not meet it; and of one revolution
--- that is cut into parts. Proved in proofs/Examples.antt, by computation.
+-- What demand 3 says of one session of three revolutions, in bits, and what would not meet it; of one revolution that is
+-- cut into parts; and of passes in slices. Proved in proofs/Examples.antt, by computation.
 -- The revolutions pass 3, 2^53 and -2^53 back to one node of the model, so that the order of the three sums shows: (0 +
 -- 3) + 2^53 is 2^53 + 4 in floats, and less 2^53 it is 4.
 use Prim.Native.Nat.{ℕ, _+_, _-_, _*_, _^_}
 use mathlib.Core.Path.{_≡_}
+use mathlib.Core.Bool.{true}
 use mathlib.Core.List.{List, [], _∷_, _++_, map, reverse}
 use lib.Ieee.{Float, binary64, toBits, neg}
 use lib.ListN.{length, take, drop, replicate}
 use Rattle.tape.specs.Numbers.{floats}
-use Rattle.tape.specs.Machine.{Machine}
+use Rattle.tape.specs.Machine.{Machine, machine, most-nodes, state}
 use Rattle.tape.specs.Operations.{LEAF, ADD, MULTIPLY, SUPPLIED-ONE}
 use Rattle.tape.specs.Handles.{Operand, plain, node}
-use Rattle.tape.specs.Calls.{Call, adjoint-of, value-of, list}
+use Rattle.tape.specs.Calls.{Call, open-pass, slice, backward-to-mark, propagate-mark-to-start, adjoint-of, value-of, list}
+use Rattle.tape.specs.Steps.{run}
 use Rattle.tape.specs.Kept.{fresh}
-use Rattle.tape.specs.Rows.{float, sevens, handle, given, node-at}
-use Rattle.revolutions.specs.Revolutions.{Operation, Revolution, Session, ResolvedRevolution, ResolvedSession, resolve-revolution, resolve, calls, long-tape, RunsAs, model-adjoints}
+use Rattle.tape.specs.Passes.{Unrefused}
+use Rattle.tape.specs.Rows.{float, sevens, handle, given, node-at, with-open}
+use Rattle.revolutions.specs.Revolutions.{Operation, Revolution, Session, ResolvedRevolution, ResolvedSession, resolve-revolution, resolve, calls, all-in-one-go, long-tape, RunsAs, model-adjoints}
 use Rattle.revolutions.specs.Trading.{Apart, with-both}
 
 -- ---- the session
@@ -146,3 +149,43 @@ pub record Cut : Type 0 where
   pub whole : adjoints-of (parts (part 3 (neg high ∷ high ∷ float 3 ∷ []) ∷ [])) ≡ 0x4038_0000_0000_0000 ∷ 0x4010_0000_0000_0000 ∷ []
   pub last-part-first : adjoints-of (parts (part 3 (float 3 ∷ []) ∷ part 5 (neg high ∷ high ∷ []) ∷ [])) ≡ 0x4038_0000_0000_0000 ∷ 0x4010_0000_0000_0000 ∷ []
   pub first-part-first : adjoints-of (parts (part 3 (neg high ∷ high ∷ []) ∷ part 7 (float 3 ∷ []) ∷ [])) ≡ 0x4032_0000_0000_0000 ∷ 0x4008_0000_0000_0000 ∷ []
+
+-- ---- passes in slices
+
+-- the pass of the revolution whose serials begin at k, over its four nodes: slices of 1, of 2 and of what is left, with
+-- an adjoint read between
+abbrev pub cut-turn : ℕ → List (Call floats)
+cut-turn k =
+    let root = node (handle 4 (k + 2)) in
+    open-pass (backward-to-mark root) ∷ slice 1 ∷ adjoint-of root ∷ slice 2 ∷ slice most-nodes ∷ []
+
+-- the last pass, over the model's two
+abbrev pub cut-last : List (Call floats)
+cut-last = open-pass propagate-mark-to-start ∷ slice 1 ∷ adjoint-of (node-at 0) ∷ slice 1 ∷ []
+
+-- these calls in the place of the one at i
+abbrev pub instead : ℕ → List (Call floats) → List (Call floats) → List (Call floats)
+instead i xs cs = take i cs ++ (xs ++ drop (i + 1) cs)
+
+-- the session's calls, with every pass cut
+abbrev pub all-cut : List (Call floats)
+all-cut =
+    instead 9 (cut-turn 3) (instead 15 (cut-turn 7) (instead 21 (cut-turn 11) (instead 23 cut-last (calls three))))
+
+-- on a tape that was left with a walk open
+abbrev pub walking : Machine floats
+walking = with-open 0 1 (machine (state 1 0 true 1) (sevens 6))
+
+-- with the last pass opened and no more
+abbrev pub unfinished : List (Call floats)
+unfinished = take (length all-cut - 3) all-cut
+
+-- The session with every pass cut leaves the same bits. If its last pass is opened and no more, the rest of the premise
+-- holds, but a walk is open after the last call, and the adjoint of x is 0: `over` is needed
+pub record InSlices : Type 0 where
+  pub runs : RunsAs three all-cut walking
+  pub adjoints : bits (model-adjoints three all-cut walking) ≡ 0x4038_0000_0000_0000 ∷ 0x4010_0000_0000_0000 ∷ []
+  pub unfinished-so : all-cut ≡ unfinished ++ (slice 1 ∷ adjoint-of (node-at 0) ∷ slice 1 ∷ [])
+  pub unfinished-session : all-in-one-go unfinished ≡ calls three
+  pub unfinished-unrefused : Unrefused (run unfinished walking .0)
+  pub unfinished-adjoints : bits (model-adjoints three unfinished walking) ≡ 0 ∷ 0x4010_0000_0000_0000 ∷ []

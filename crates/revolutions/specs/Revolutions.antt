@@ -2,7 +2,7 @@
 -- is built from that, and what is proved. Over any numbers; no law of them is assumed.
 use Prim.Native.Nat.{ℕ, _+_, _-_, _≤_}
 use mathlib.Core.Path.{_≡_}
-use mathlib.Core.Bool.{Bool, true, false, cond}
+use mathlib.Core.Bool.{cond}
 use mathlib.Core.List.{List, [], _∷_, _++_, map}
 use mathlib.Core.Option.{Option, none, some}
 use lib.Dec.{ltb}
@@ -12,10 +12,11 @@ use Rattle.tape.specs.Machine.{Machine}
 use Rattle.tape.specs.Handles.{Operand, plain, node}
 use Rattle.tape.specs.Operations.{Given, apply, one-sided}
 use Rattle.tape.specs.Walk.{Edge, walk}
-use Rattle.tape.specs.Calls.{Call, move, start, set-mark, rewind-to-mark, operate, clear, pass, backward-to-mark, propagate-mark-to-start, value-of, adjoint-of, is-live, list}
+use Rattle.tape.specs.Calls.{Call, move, start, set-mark, rewind-to-mark, operate, clear, pass, open-pass, slice, backward-to-mark, propagate-mark-to-start, value-of, adjoint-of, is-live, list}
 use Rattle.tape.specs.Steps.{run}
 use Rattle.tape.specs.Kept.{after}
 use Rattle.tape.specs.Passes.{Unrefused}
+use Rattle.tape.specs.Slices.{Over}
 use Rattle.tape.specs.declared.node.Handle.{Handle}
 
 -- ---- a session
@@ -51,20 +52,25 @@ calls s =
     ∷ recordings (s .model)
     ++ (move set-mark ∷ clear ∷ revolution-calls (s .revolutions) ++ (pass propagate-mark-to-start ∷ []))
 
--- reads and listings, which may stand anywhere between
-abbrev pub reads : {N : Numbers} → Call N → Bool
-reads (value-of x) = true
-reads (adjoint-of x) = true
-reads (is-live x) = true
-reads (list bytes) = true
-reads (move m) = false
-reads (operate op left right g) = false
-reads clear = false
-reads (pass p) = false
+-- ---- how its calls may be made
 
-abbrev pub without-reads : {N : Numbers} → List (Call N) → List (Call N)
-without-reads [] = []
-without-reads (c ∷ cs) = cond (reads c) (without-reads cs) (c ∷ without-reads cs)
+-- What a call stands for in a session: opening a pass for that pass; a slice, a read and a listing for nothing. So any
+-- pass may be cut, and reads and listings may stand anywhere between
+abbrev pub in-one-go : {N : Numbers} → Call N → List (Call N)
+in-one-go (open-pass p) = pass p ∷ []
+in-one-go (slice n) = []
+in-one-go (value-of x) = []
+in-one-go (adjoint-of x) = []
+in-one-go (is-live x) = []
+in-one-go (list bytes) = []
+in-one-go (move m) = move m ∷ []
+in-one-go (operate op left right g) = operate op left right g ∷ []
+in-one-go clear = clear ∷ []
+in-one-go (pass p) = pass p ∷ []
+
+abbrev pub all-in-one-go : {N : Numbers} → List (Call N) → List (Call N)
+all-in-one-go [] = []
+all-in-one-go (c ∷ cs) = in-one-go c ++ all-in-one-go cs
 
 -- ---- what it resolves to
 
@@ -163,12 +169,13 @@ abbrev pub AtOrPast : {N : Numbers} → ℕ → List (Revolution N) → Type 0
 AtOrPast mark [] = Unit {0}
 AtOrPast mark (r ∷ rs) = (mark ≤ r .root .index) × AtOrPast mark rs
 
--- These calls are the session's, but for reads and listings; on this machine none is refused; each root stands at or
--- past the mark.
--- Nothing else is asked: not of shapes, room or where children stand
+-- These calls are the session's, but that passes may be cut, and reads and listings stand between; on this machine none
+-- is refused, and no walk is open after the last; each root stands at or past the mark.
+-- Nothing else is asked: not of shapes, room or where children stand, nor of how large slices are
 pub record RunsAs {N : Numbers} (s : Session N) (cs : List (Call N)) (M : Machine N) : Type 0 where
-  pub session : without-reads cs ≡ calls s
+  pub session : all-in-one-go cs ≡ calls s
   pub unrefused : Unrefused (run cs M .0)
+  pub over : Over (after cs M)
   pub roots : AtOrPast (length (s .model)) (s .revolutions)
 
 -- the model's part of the adjoint array, as the calls leave it

@@ -37,7 +37,8 @@ abbrev pub with-both : {N : Numbers} → List (ResolvedOperation N) → List (Re
     → ResolvedRevolution N → List (ResolvedRevolution N) → ResolvedSession N
 with-both model before p q later = record { model = model; revolutions = before ++ (p ∷ q ∷ later) }
 
--- a session that resolves to this and is not refused on this machine
+-- a session that resolves to this and is not refused on this machine, in one go; that a pass of it may then be cut is
+-- `GoesOn` and `AnyCutting` of crates/tape/specs/Slices.antt
 pub record Runnable {N : Numbers} (M : Machine N) (resolved : ResolvedSession N) : Type 0 where
   pub session : Session N
   pub runs : RunsAs session (calls session) M

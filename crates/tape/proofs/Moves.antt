@@ -6,8 +6,8 @@ use Rattle.tape.specs.Numbers.{floats}
 use Rattle.tape.specs.Machine.{Arrays, machine}
 use Rattle.tape.specs.Answers.{outcome, done}
 use Rattle.tape.specs.Calls.{Move, start, stop, set-mark, reset-mark, rewind-to-mark, rewind-to-init, move, moved}
-use Rattle.tape.specs.Admission.{admitted, admission}
-use Rattle.tape.specs.Refusals.{mover, first}
+use Rattle.tape.specs.Admission.{first, admitted, admission}
+use Rattle.tape.specs.Refusals.{mover}
 use Rattle.tape.specs.Steps.{unless, step}
 use Rattle.tape.specs.Inner.{no-arrays, moved-by}
 use Rattle.tape.specs.declared.errors.Refusal.{Refusal}

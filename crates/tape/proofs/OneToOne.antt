@@ -10,13 +10,13 @@ use Rattle.tape.specs.Numbers.{floats}
 use Rattle.tape.specs.Machine.{Arrays}
 use Rattle.tape.specs.Answers.{number, outcome, OneToOne}
 use Rattle.tape.specs.declared.errors.Refusal.{Refusal}
-use Rattle.tape.specs.declared.errors.Refusal.the-variants.{Misshapen, UnknownOperation, NotLive, Detached, Full, SerialsSpent, UnsoundEdge, ListingTooLong}
+use Rattle.tape.specs.declared.errors.Refusal.the-variants.{Misshapen, UnknownOperation, NotLive, Detached, Full, SerialsSpent, UnsoundEdge, ListingTooLong, OutOfTurn, UnfitSlice}
 use Rattle.tape.specs.declared.tape.Moved.{Moved}
 use Rattle.tape.specs.declared.tape.Moved.the-variants.{Done, Refused}
 use Rattle.tape.specs.declared.tape.Tape.{Tape}
 
 abbrev every-refusal : List Refusal
-every-refusal = Misshapen ∷ UnknownOperation ∷ NotLive ∷ Detached ∷ Full ∷ SerialsSpent ∷ UnsoundEdge ∷ ListingTooLong ∷ []
+every-refusal = Misshapen ∷ UnknownOperation ∷ NotLive ∷ Detached ∷ Full ∷ SerialsSpent ∷ UnsoundEdge ∷ ListingTooLong ∷ OutOfTurn ∷ UnfitSlice ∷ []
 
 abbrev among : {A : Type 0} → List Refusal → A → (Refusal → A) → ℕ → A
 among [] x f k = x
@@ -35,10 +35,15 @@ at-refusal x f Full = refl
 at-refusal x f SerialsSpent = refl
 at-refusal x f UnsoundEdge = refl
 at-refusal x f ListingTooLong = refl
+at-refusal x f OutOfTurn = refl
+at-refusal x f UnfitSlice = refl
 
 -- no refusal has number 0
+pub never-nought : (r : Refusal) → number r ≡ 0 → ⊥
+never-nought r e = let z : _≡_ {A = ℕ} 0 1 = sym (at-refusal 1 (λ _. 0) r) ∙ ap (by-number 1 (λ _. 0)) e in omega arith
+
 pub not-nought : (r : Refusal) → eqb (number r) 0 ≡ false
-not-nought r = ne-eqb (number r) 0 (λ e. let z : _≡_ {A = ℕ} 0 1 = sym (at-refusal 1 (λ _. 0) r) ∙ ap (by-number 1 (λ _. 0)) e in omega arith)
+not-nought r = ne-eqb (number r) 0 (never-nought r)
 
 abbrev meant : ℕ → Tape → Moved
 meant k t = by-number (Done t) (λ r. Refused r t) k

@@ -22,4 +22,14 @@ order = record {
   three-and-seven = (refl, refl);
   four-and-seven = (refl, refl);
   five-and-six = (refl, refl);
+  one-and-twelve = (refl, refl);
+  one-and-thirteen = (refl, refl);
+  twelve-and-thirteen = (refl, refl);
+  twelve-and-two = (refl, refl);
+  twelve-and-three = (refl, refl);
+  twelve-and-four = (refl, refl);
+  twelve-and-five = (refl, refl);
+  twelve-and-six = (refl, refl);
+  twelve-and-seven = (refl, refl);
+  thirteen-and-seven = (refl, refl);
 }

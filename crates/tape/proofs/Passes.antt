@@ -9,26 +9,47 @@ use mathlib.Core.List.{List, [], _∷_, _++_, map, map-append}
 use mathlib.Core.Option.{some, none}
 use borrow.Author.Tests.{ltb-true}
 use lib.Dec.{ltb}
-use lib.ListN.{length, getD, set, length-map}
+use lib.ListN.{length, getD, set, length-map, length-set}
 use lib.Seq.{getD-set-other}
 use Rattle.tape.specs.Numbers.{Numbers}
 use Rattle.tape.specs.Machine.{Arrays, Machine, machine, slot, all, most-nodes}
-use Rattle.tape.specs.Handles.{plain, node, handles}
+use Rattle.tape.specs.Handles.{Operand, plain, node, handles}
 use Rattle.tape.specs.Walk.{Edge, push, walk, edges-from, edges-at, indexes, sum, visited, sound}
 use Rattle.tape.specs.Answers.{Answer, number, done, counted}
-use Rattle.tape.specs.Calls.{reset-mark, Pass, backward, backward-to-mark, backward-mark-to-start, propagate-to-mark, propagate-mark-to-start, Call, move, operate, clear, pass, value-of, adjoint-of, is-live, list, moved, with-adjoints, plan, carried}
-use Rattle.tape.specs.Admission.{let-in}
+use Rattle.tape.specs.Calls.{reset-mark, Pass, backward, backward-to-mark, backward-mark-to-start, propagate-to-mark, propagate-mark-to-start, Call, move, operate, clear, pass, open-pass, slice, value-of, adjoint-of, is-live, list, moved, with-adjoints, Plan, plan, range, seeded, walked, left-of, slice-plan, carried}
+use Rattle.tape.specs.Admission.{walk-fits, let-in}
 use Rattle.tape.specs.Refusals.{refusal-of, asked, unknown, first-amiss, too-long}
 use Rattle.tape.specs.Steps.{step, run}
 use Rattle.tape.specs.Kept.{fresh, after}
 use Rattle.tape.specs.Passes.{EachEdge, push-edge-by-edge, OnlyAdjoints, EmptyRange, BothRanges, NeverUnsound, Unrefused, counts, in-one, in-two}
 use Rattle.tape.specs.declared.errors.Refusal.{Refusal}
 use Rattle.tape.specs.declared.admission.Caller.the-variants as caller
-use Rattle.tape.proofs.OneToOne.{by-number, at-refusal}
+use Rattle.tape.specs.declared.tape.Walk.{Walk}
+use Rattle.tape.specs.declared.tape.Walk.the-variants.{Closed, Open}
+use Rattle.tape.proofs.OneToOne.{never-nought}
 use Rattle.tape.proofs.Ranges.{length-indexes, indexes-cut, sum-append, all-append, all-below}
 use Rattle.tape.proofs.Recording.{SoundNodes, recording}
-use Rattle.tape.proofs.Steps.{by-table, granted-shape, Passed, shape, sound-range, by-refusal, first-live}
-use Rattle.tape.proofs.Tests.{by-test, Fit, fit, state-fit-so, refits}
+use Rattle.tape.proofs.Steps.{by-table, granted-shape, Passed, shape, closed, sound-range, by-refusal, first-live}
+use Rattle.tape.proofs.Tests.{by-test, walk-fit, Fit, fit, state-fit-so, refits}
+
+-- ---- a pass leaves the number of adjoints
+
+module _ {N : Numbers} where
+  length-push : (a : N .Number) (es : List (Edge N)) (s : List (N .Number)) → length (push a es s) ≡ length s
+  length-push a [] s = refl
+  length-push a (e ∷ es) s = length-push a es _ ∙ length-set s (e .child) _
+
+  pub length-walk : (i : ℕ) (ns : List (List (Edge N))) (s : List (N .Number)) → length (walk i ns s) ≡ length s
+  length-walk i [] s = refl
+  length-walk i (es ∷ above) s = length-push _ es (walk (suc i) above s) ∙ length-walk (suc i) above s
+
+  pub length-seeded : (os : List (Operand N)) (s : List (N .Number)) → length (seeded os s) ≡ length s
+  length-seeded [] s = refl
+  length-seeded (plain x ∷ os) s = length-seeded os s
+  length-seeded (node h ∷ os) s = length-seeded os _ ∙ length-set s _ _
+
+  pub length-walked : (P : Plan N) (L : Machine N) → length (walked P L .lent .adjoint) ≡ length (L .lent .adjoint)
+  length-walked P L = length-walk (P .from) (map (edges-at (L .lent)) (range P)) (seeded (P .root) (L .lent .adjoint)) ∙ length-seeded (P .root) (L .lent .adjoint)
 
 -- ---- each edge
 
@@ -67,7 +88,7 @@ only-adjoints = record {
 
 pub empty-range : EmptyRange
 unfolding step
-empty-range = record { to-start = λ M shape e. rw (shape, e); to-mark = λ M shape e. rw (shape, e, sub-self) }
+empty-range = record { to-start = λ M shape closed e. rw (shape, closed, e); to-mark = λ M shape closed e. rw (shape, closed, e, sub-self) }
 
 -- ---- both ranges
 
@@ -97,7 +118,7 @@ accepted c M =
     (λ x. x .0 .number ≡ 0 → Accepted c M x)
     c
     M
-    (λ r _ e. let never : _≡_ {A = ℕ} 0 1 = sym (at-refusal 1 (λ _. 0) r) ∙ ap (by-number 1 (λ _. 0)) e in absurd (omega arith))
+    (λ r _ e. absurd (never-nought r e))
     (λ p _. record { passed = p; carries = refl })
 
 two-calls : {N : Numbers} (c d : Call N) (M : Machine N) {x y : Answer N × Machine N} → step c M ≡ x → step d (x .1) ≡ y → run (c ∷ d ∷ []) M ≡ (x .0 ∷ y .0 ∷ [], y .1)
@@ -106,14 +127,14 @@ two-calls c d M {x} e f = ap (λ s. (s .0 ∷ step d (s .1) .0 ∷ [], step d (s
 abbrev reset : {N : Numbers} → Machine N → Machine N
 reset M = machine (moved reset-mark (M .state)) (M .lent)
 
-module _ {N : Numbers} (M : Machine N) (f : Fit M) where
+module _ {N : Numbers} (M : Machine N) (f : Fit M) (closed : M .state .walk ≡ Closed) where
   resets : step (move reset-mark) M ≡ (done, reset M)
   unfolding step
-  resets = rw (state-fit-so most-nodes (M .state) (record { length = omega arith; mark = omega arith; next = f .state .next }))
+  resets = rw (state-fit-so most-nodes (M .state) (record { length = omega arith; mark = omega arith; next = f .state .next; walk = f .state .walk }), closed)
 
   walks-whole : all (map (sound (M .lent)) (indexes 0 (M .state .length - 0))) ≡ true → step (pass propagate-to-mark) (reset M) ≡ carried (pass propagate-to-mark) (reset M)
   unfolding step
-  walks-whole every = rw (refits M (reset M .state) f (record { length = omega arith; mark = zero-le; next = f .state .next }), every)
+  walks-whole every = rw (refits M (reset M .state) f (record { length = omega arith; mark = zero-le; next = f .state .next; walk = f .state .walk }), closed, every)
 
 -- the answers of two passes as those of one, and the mark reset
 abbrev joined : {N : Numbers} → List (Answer N) × Machine N → List (Answer N) × Machine N
@@ -129,7 +150,8 @@ one-walk M (u, (v, _)) =
     let every = sound-cut (M .lent) 0 mark end zero-le (f .state .mark) (sound-range (high .passed)) (sound-range (low .passed)) in
     let visits = visited-cut (M .lent) 0 mark end zero-le (f .state .mark) in
     let walks = walk-cut (M .lent) 0 mark end zero-le (f .state .mark) (M .lent .adjoint) in
-    two-calls (move reset-mark) (pass propagate-to-mark) M (resets M f) (walks-whole M f every)
+    let none-open = closed (high .passed) refl in
+    two-calls (move reset-mark) (pass propagate-to-mark) M (resets M f none-open) (walks-whole M f none-open every)
     ∙ (λ i. (done ∷ counted (visits i) ∷ [], with-adjoints (reset M) (walks i)))
     ∙ sym (ap joined (two-calls (pass propagate-to-mark) (pass propagate-mark-to-start) M (high .carries) (low .carries)))
 
@@ -152,11 +174,28 @@ ends (backward-mark-to-start x) M f all-live = omega arith
 ends propagate-to-mark M f all-live = omega arith
 ends propagate-mark-to-start M f all-live = omega arith
 
+-- and so do the nodes that are left of a walk, of which there is one or more if it is open
+pub left-ends : (w : Walk) (length : ℕ) → walk-fits length w ≡ true → left-of w .end ≤ length
+left-ends Closed length e = zero-le
+left-ends (Open s) length e = walk-fit length s e .1
+
+pub left-in-order : (w : Walk) (length : ℕ) → walk-fits length w ≡ true → left-of w .from ≤ left-of w .end
+left-in-order Closed length e = zero-le
+left-in-order (Open s) length e = omega (arith, walk-fit length s e)
+
 module _ {N : Numbers} (M : Machine N) (nodes : SoundNodes M) where
-  pub range-sound : (c : Call N) → let-in (asked c (M .state) .caller) M ≡ none → first-amiss M (handles (asked c (M .state) .operands)) ≡ none → all (map (sound (M .lent)) (asked c (M .state) .range)) ≡ true
-  range-sound (pass p) in-so all-live =
+  pass-sound : (p : Pass N) → let-in caller.Passing M ≡ none → first-amiss M (handles (plan p (M .state) .root)) ≡ none → all (map (sound (M .lent)) (range (plan p (M .state)))) ≡ true
+  pass-sound p in-so all-live =
       let P = plan p (M .state) in
       let end : P .end ≤ M .state .length = ends p M (fit M (granted-shape caller.Passing M in-so)) all-live in
+      all-below (sound (M .lent)) (P .from) (P .end - P .from) (λ j l h. nodes j (omega arith))
+
+  pub range-sound : (c : Call N) → let-in (asked c (M .state) .caller) M ≡ none → first-amiss M (handles (asked c (M .state) .operands)) ≡ none → all (map (sound (M .lent)) (asked c (M .state) .range)) ≡ true
+  range-sound (pass p) in-so all-live = pass-sound p in-so all-live
+  range-sound (open-pass p) in-so all-live = pass-sound p in-so all-live
+  range-sound (slice n) in-so all-live =
+      let P : Plan N = slice-plan n (left-of (M .state .walk)) in
+      let end : P .end ≤ M .state .length = left-ends (M .state .walk) (M .state .length) (fit M (granted-shape (caller.Slice n) M in-so) .state .walk) in
       all-below (sound (M .lent)) (P .from) (P .end - P .from) (λ j l h. nodes j (omega arith))
   range-sound (move m) _ _ = refl
   range-sound (operate op left right g) _ _ = refl
@@ -170,6 +209,8 @@ module _ {N : Numbers} (M : Machine N) (nodes : SoundNodes M) where
   not-unsound : (c : Call N) (r : Refusal) → refusal-of c M ≡ some r → number r ≡ 7 → ⊥
   not-unsound c = by-table (λ r. number r ≡ 7 → ⊥) c M (record {
     misshapen = λ e. omega arith;
+    out-of-turn = λ _ e. omega arith;
+    unfit = λ e. omega arith;
     unknown = λ e. omega arith;
     not-live = λ h e. omega arith;
     detached = λ e. omega arith;
@@ -184,10 +225,21 @@ carried-number {N} (operate op left right g) M = by-test (λ (x : Answer N × Ma
 carried-number (move m) M = refl
 carried-number clear M = refl
 carried-number (pass p) M = refl
+carried-number (open-pass p) M = refl
+carried-number (slice n) M = refl
 carried-number (value-of x) M = refl
 carried-number (adjoint-of x) M = refl
 carried-number (is-live x) M = refl
 carried-number (list bytes) M = refl
+
+-- a call that no row refuses does what `carried` says
+pub passes : {N : Numbers} (c : Call N) (L : Machine N) → refusal-of c L ≡ none → Accepted c L (step c L)
+unfolding step
+passes c L e = record { passed = record { none-refuses = e }; carries = rw e }
+
+-- and answers with number 0
+pub answers : {N : Numbers} {c : Call N} {L : Machine N} → Accepted c L (step c L) → step c L .0 .number ≡ 0
+answers {c = c} {L} a = rw (a .carries) (carried-number c L)
 
 pub never-unsound : NeverUnsound
 never-unsound = record {

@@ -2,7 +2,8 @@
 use Rattle.tape.specs.Answers.{OneToOne}
 use Rattle.tape.specs.Kept.{StaleHandles, Revived, Serials, Recording}
 use Rattle.tape.specs.Passes.{EachEdge, OnlyAdjoints, EmptyRange, BothRanges, NeverUnsound}
-use Rattle.tape.specs.Rows.{EveryRow, EveryChoice, EveryRoot, EveryText}
+use Rattle.tape.specs.Slices.{Turns, AnyCutting, GoesOn, AllOneSize, EachSlice}
+use Rattle.tape.specs.Rows.{EveryRow, EveryChoice, EveryRoot, EverySlice, EveryText}
 use Rattle.tape.specs.Pairs.{Order}
 use Rattle.tape.proofs.OneToOne as answers
 use Rattle.tape.proofs.Pairs as pairs
@@ -11,7 +12,9 @@ use Rattle.tape.proofs.Recording as recorded
 use Rattle.tape.proofs.Revived as alive
 use Rattle.tape.proofs.Rows as rows
 use Rattle.tape.proofs.Serials as counted
+use Rattle.tape.proofs.Slices as sliced
 use Rattle.tape.proofs.Stale as stale
+use Rattle.tape.proofs.Turns as turned
 
 one-to-one : OneToOne
 one-to-one = answers.one-to-one
@@ -43,6 +46,21 @@ both-ranges = passes.both-ranges
 never-unsound : NeverUnsound
 never-unsound = passes.never-unsound
 
+turns : Turns
+turns = turned.turns
+
+any-cutting : AnyCutting
+any-cutting = sliced.any-cutting
+
+goes-on : GoesOn
+goes-on = sliced.goes-on-so
+
+all-one-size : AllOneSize
+all-one-size = sliced.all-one-size
+
+each-slice : EachSlice
+each-slice = sliced.each-slice
+
 every-row : EveryRow
 every-row = rows.every-row
 
@@ -51,6 +69,9 @@ every-choice = rows.every-choice
 
 every-root : EveryRoot
 every-root = rows.every-root
+
+every-slice : EverySlice
+every-slice = rows.every-slice
 
 every-text : EveryText
 every-text = rows.every-text

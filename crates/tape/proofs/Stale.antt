@@ -2,8 +2,8 @@
 -- on what a step leaves.
 use Prim.Native.Nat.{ℕ, _+_, _<_}
 use native.Mathlib.Omega.{arith}
-use mathlib.Core.Path.{_≡_, refl, sym, _∙_}
-use mathlib.Core.Bool.{Bool, true, false, true≢false}
+use mathlib.Core.Path.{_≡_, sym, _∙_}
+use mathlib.Core.Bool.{true, false, true≢false}
 use mathlib.Core.List.{List}
 use lib.ListN.{length, getD, set}
 use lib.Seq.{getD-set-same, getD-set-other}
@@ -15,6 +15,7 @@ use Rattle.tape.specs.Calls.{Call}
 use Rattle.tape.specs.Kept.{StaleHandles, SerialsIssued, fresh, after}
 use Rattle.tape.specs.declared.node.Handle.{Handle}
 use Rattle.tape.proofs.Serials.{never-fall}
+use Rattle.tape.proofs.Tests.{is-false}
 use Rattle.tape.proofs.Steps.{Effect, keeps, records, Lives, lives-parts, lives-so, kept, last-or-below}
 
 -- a list below n + 1 once v is stored at n
@@ -42,10 +43,6 @@ past-kept h M _ (records v es r s) p =
           p .dead (record { below = older .0; serial = a .serial; same = older .1 });
       serial = omega arith;
     }
-
-is-false : (b : Bool) → (b ≡ true → ⊥) → b ≡ false
-is-false true f = absurd (f refl)
-is-false false f = refl
 
 module _ {N : Numbers} (M : Machine N) (h : Handle) (is : SerialsIssued M) (was : live M h ≡ true) where
   -- its serial was given out, and still is

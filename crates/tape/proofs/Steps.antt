@@ -3,8 +3,8 @@ use Prim.Native.Nat.{ℕ, suc, _+_, _≤_, _<_, zero-le}
 use native.Mathlib.Nat.{le-refl}
 use native.Mathlib.Omega.{arith}
 use native.Mathlib.Decide.{decLt}
-use mathlib.Core.Path.{_≡_, refl, sym, ap, subst}
-use mathlib.Core.Bool.{Bool, true, false, not, _&&_, cond}
+use mathlib.Core.Path.{_≡_, refl, sym, ap, subst, _∙_}
+use mathlib.Core.Bool.{Bool, true, false, not, _&&_, cond, true≢false}
 use mathlib.Core.List.{List, [], _∷_, _++_, map, append-nil}
 use mathlib.Core.Option.{Option, none, some, Option·some-injective}
 use borrow.Author.Tests.{ltb-true, eqb-true, eqb-false, lt-ltb, eq-eqb, ne-eqb, not-true, not-false}
@@ -16,19 +16,22 @@ use Rattle.tape.specs.Handles.{Operand, plain, node, live, amiss, any-pl
 use Rattle.tape.specs.Operations.{Given, apply, one-sided}
 use Rattle.tape.specs.Walk.{Edge, sound}
 use Rattle.tape.specs.Answers.{Answer, number, answer, refused, recorded}
-use Rattle.tape.specs.Calls.{Move, start, stop, set-mark, reset-mark, rewind-to-mark, rewind-to-init, Call, move, operate, clear, pass, value-of, adjoint-of, is-live, list, edge, edges, issued, written, carried}
-use Rattle.tape.specs.Admission.{is-lent, fits, admitted, let-in, when}
-use Rattle.tape.specs.Refusals.{Asked, too-long, mover, asked, refusals, first, refusal-of, unknown, first-amiss, would-record, last-serial}
+use Rattle.tape.specs.Calls.{Move, start, stop, set-mark, reset-mark, rewind-to-mark, rewind-to-init, Call, move, operate, clear, pass, open-pass, slice, value-of, adjoint-of, is-live, list, edge, edges, issued, written, carried}
+use Rattle.tape.specs.Admission.{lengths, is-lent, fitting, fits, while-open, in-turn, slice-fits, head-tests, admission, admitted, let-in, when, first}
+use Rattle.tape.specs.Refusals.{Asked, too-long, mover, asked, refusals, refusal-of, unknown, first-amiss, would-record, last-serial}
 use Rattle.tape.specs.Steps.{unless, step}
 use Rattle.tape.specs.Kept.{after}
 use Rattle.tape.proofs.Tests.{by-test, by-or, every, Fit, fit, state-fit}
 use Rattle.tape.specs.declared.errors.Refusal.{Refusal}
-use Rattle.tape.specs.declared.errors.Refusal.the-variants.{Misshapen, UnknownOperation, Detached, Full, SerialsSpent, UnsoundEdge, ListingTooLong}
+use Rattle.tape.specs.declared.errors.Refusal.the-variants.{Misshapen, UnknownOperation, Detached, Full, SerialsSpent, UnsoundEdge, ListingTooLong, OutOfTurn, UnfitSlice}
 use Rattle.tape.specs.declared.admission.Admission.{Admission}
-use Rattle.tape.specs.declared.admission.Admission.the-variants as admission
+use Rattle.tape.specs.declared.admission.Admission.the-variants as door
 use Rattle.tape.specs.declared.admission.Caller.{Caller}
+use Rattle.tape.specs.declared.admission.Lengths.{Lengths}
 use Rattle.tape.specs.declared.node.Handle.{Handle}
 use Rattle.tape.specs.declared.tape.Tape.{Tape}
+use Rattle.tape.specs.declared.tape.Walk.{Walk}
+use Rattle.tape.specs.declared.tape.Walk.the-variants.{Closed, Open}
 
 -- ---- the first row that refuses
 
@@ -60,9 +63,24 @@ pub unhit : (b : Bool) (r : Refusal) → when b r ≡ none → b ≡ false
 unhit true r e = not-some e
 unhit false r e = refl
 
--- what is let in fits
+-- what is let in fits, and comes in its turn
+module _ (k : Caller) (n : Lengths) (t : Tape) (e : admission k n t ≡ none) where
+  head : AllNone (head-tests k n t)
+  head = all-none (head-tests k n t) e
+
+  pub let-in-fits : fitting (is-lent k) n t ≡ true
+  let-in-fits = not-false _ (unhit _ _ (head .0))
+
+  pub let-in-turn : in-turn (t .walk) k ≡ true
+  let-in-turn = not-false _ (unhit _ _ (head .1 .0))
+
 pub granted-shape : {N : Numbers} (k : Caller) (M : Machine N) → let-in k M ≡ none → fits (is-lent k) M ≡ true
-granted-shape k M e = not-false _ (unhit _ _ e)
+granted-shape k M e = let-in-fits k (lengths (M .lent)) (M .state) e
+
+-- a call that is not answered while a walk is open comes while none is
+pub closed-for : (k : Caller) (w : Walk) → while-open k ≡ false → in-turn w k ≡ true → w ≡ Closed
+closed-for k Closed e t = refl
+closed-for k (Open s) e t = absurd (true≢false (sym t ∙ e))
 
 pub mover-unlent : (m : Move) → is-lent (mover m) ≡ false
 mover-unlent start = refl
@@ -82,6 +100,9 @@ module _ {N : Numbers} {c : Call N} {M : Machine N} (p : Passed c M) where
 
   pub shape : fits (is-lent (asked c (M .state) .caller)) M ≡ true
   shape = granted-shape (asked c (M .state) .caller) M granted
+
+  pub closed : while-open (asked c (M .state) .caller) ≡ false → M .state .walk ≡ Closed
+  closed e = closed-for (asked c (M .state) .caller) (M .state .walk) e (let-in-turn (asked c (M .state) .caller) (lengths (M .lent)) (M .state) granted)
 
   pub known : unknown (asked c (M .state) .operation) ≡ false
   known = unhit _ _ (rows .1 .0)
@@ -116,9 +137,22 @@ amiss-gives : {N : Numbers} (P : Refusal → Type 0) (M : Machine N) → ((h : H
 amiss-gives P M p [] r = λ e. not-some (sym e)
 amiss-gives P M p (h ∷ hs) r = by-test (λ o. o ≡ some r → P r) (live M h) (λ _. amiss-gives P M p hs r) (λ _ e. subst P (Option·some-injective _ _ e) (p h))
 
+head-gives : {N : Numbers} (P : Refusal → Type 0) (k : Caller) (M : Machine N) → P Misshapen → (in-turn (M .state .walk) k ≡ false → P OutOfTurn) → P UnfitSlice → (r : Refusal) → let-in k M ≡ some r → P r
+head-gives P k M one twelve thirteen =
+    of-first P (head-tests k (lengths (M .lent)) (M .state)) (
+      when-gives P (not (fits (is-lent k) M)) Misshapen (λ _. one),
+      λ _. (
+        when-gives P (not (in-turn (M .state .walk) k)) OutOfTurn (λ e. twelve (not-true _ e)),
+        λ _.
+            (when-gives P (not (slice-fits k)) UnfitSlice (λ _. thirteen), λ _. tt),
+      ),
+    )
+
 -- the table, a line a refusal: when it is given, and what is to hold of it then
 pub record Gives {N : Numbers} (P : Refusal → Type 0) (q : Asked N) (M : Machine N) : Type 0 where
   pub misshapen : P Misshapen
+  pub out-of-turn : in-turn (M .state .walk) (q .caller) ≡ false → P OutOfTurn
+  pub unfit : P UnfitSlice
   pub unknown : P UnknownOperation
   pub not-live : (h : Handle) → P (amiss (M .state) h)
   pub detached : P Detached
@@ -131,7 +165,7 @@ pub by-table : {N : Numbers} (P : Refusal → Type 0) (c : Call N) (M : Machine 
 by-table P c M g =
     let q = asked c (M .state) in
     of-first P (refusals q M) (
-      when-gives P (not (fits (is-lent (q .caller)) M)) Misshapen (λ _. g .misshapen),
+      head-gives P (q .caller) M (g .misshapen) (g .out-of-turn) (g .unfit),
       λ in-so. (
         when-gives P (unknown (q .operation)) UnknownOperation (λ _. g .unknown),
         λ _. (
@@ -154,16 +188,16 @@ by-table P c M g =
       ),
     )
 
-pub is-granted : (x : Admission) (o : Option Refusal) → x ≡ admitted o → x ≡ admission.Granted → o ≡ none
+pub is-granted : (x : Admission) (o : Option Refusal) → x ≡ admitted o → x ≡ door.Granted → o ≡ none
 is-granted x none e f = refl
 is-granted x (some r) e f = let z : _≡_ {A = ℕ} 0 1 = cc in absurd (omega arith)
 
-pub is-refused : (x : Admission) (o : Option Refusal) (r : Refusal) → x ≡ admitted o → x ≡ admission.Refused r → o ≡ some r
+pub is-refused : (x : Admission) (o : Option Refusal) (r : Refusal) → x ≡ admitted o → x ≡ door.Refused r → o ≡ some r
 is-refused x none r e f = let z : _≡_ {A = ℕ} 0 1 = cc in absurd (omega arith)
 is-refused x (some q) r e f = let z : q ≡ r = cc in ap some z
 
 -- what the admission refuses, which comes before all others
-pub turned-away : {N : Numbers} (c : Call N) (M : Machine N) (x : Admission) (r : Refusal) → x ≡ admitted (let-in (asked c (M .state) .caller) M) → x ≡ admission.Refused r → (refused r, M) ≡ step c M
+pub turned-away : {N : Numbers} (c : Call N) (M : Machine N) (x : Admission) (r : Refusal) → x ≡ admitted (let-in (asked c (M .state) .caller) M) → x ≡ door.Refused r → (refused r, M) ≡ step c M
 unfolding step
 turned-away c M x r e f = rw (is-refused x (let-in (asked c (M .state) .caller) M) r e f)
 
@@ -236,8 +270,8 @@ alone op l r g = by-one-sided (λ op. apply op l r g .right ≡ none) op refl re
 -- node more.
 -- A call that writes adjoints or nothing is the first of these, so all that is shown from this holds for it as well
 pub data Effect {N : Numbers} (M : Machine N) : Answer N × Machine N → Type 0 where
-  keeps : {number : ℕ} {value : N .Number} {count : ℕ} {t : Tape} {adjoint : List (N .Number)} → t .length ≤ M .state .length → t .next ≡ M .state .next
-      → Effect M (answer number value none count, machine t (arrays (M .lent .value) adjoint (M .lent .serial) (M .lent .count) (M .lent .child) (M .lent .partial)))
+  keeps : {number : ℕ} {value : N .Number} {count left : ℕ} {t : Tape} {adjoint : List (N .Number)} → t .length ≤ M .state .length → t .next ≡ M .state .next
+      → Effect M (answer number value none count left, machine t (arrays (M .lent .value) adjoint (M .lent .serial) (M .lent .count) (M .lent .child) (M .lent .partial)))
   records : (v : N .Number) (es : List (Edge N)) → Ready M → Edges (M .state .length) most-edges es → Effect M (recorded v (issued (M .state)), written M v es)
 
 move-effect : {N : Numbers} (m : Move) (M : Machine N) → M .state .mark ≤ M .state .length → Effect M (carried (move m) M)
@@ -255,6 +289,8 @@ carried-effect (operate op left right g) M p =
     by-test (Effect M) (M .state .active) (λ active. records (s .value) (edges left right s) (ready M (shape p) (rw active at (room p))) (both-ok M (one-sided op) left right (s .left) (s .right) (alone op (operand-value M left) (operand-value M right) g) (all-live p))) (λ _. keeps (le-refl _) refl)
 carried-effect clear M p = keeps (le-refl _) refl
 carried-effect (pass p) M _ = keeps (le-refl _) refl
+carried-effect (open-pass p) M _ = keeps (le-refl _) refl
+carried-effect (slice n) M _ = keeps (le-refl _) refl
 carried-effect (value-of x) M p = keeps (le-refl _) refl
 carried-effect (adjoint-of x) M p = keeps (le-refl _) refl
 carried-effect (is-live x) M p = keeps (le-refl _) refl

@@ -1,12 +1,12 @@
--- What a call returns, as document 01 has it: a number, a value, a handle and a count. Number 0 is an answer; the
--- others are the refusals.
+-- What a call returns, as document 01 has it: a number, a value, a handle, a count, and how many nodes are left of a
+-- walk. Number 0 is an answer; the others are the refusals.
 use Prim.Native.Nat.{ℕ}
 use mathlib.Core.Path.{_≡_}
 use mathlib.Core.Option.{Option, none, some}
 use Rattle.tape.specs.Numbers.{Numbers, floats}
 use Rattle.tape.specs.Machine.{Arrays, Machine, machine}
 use Rattle.tape.specs.declared.errors.Refusal.{Refusal}
-use Rattle.tape.specs.declared.errors.Refusal.the-variants.{Misshapen, UnknownOperation, NotLive, Detached, Full, SerialsSpent, UnsoundEdge, ListingTooLong}
+use Rattle.tape.specs.declared.errors.Refusal.the-variants.{Misshapen, UnknownOperation, NotLive, Detached, Full, SerialsSpent, UnsoundEdge, ListingTooLong, OutOfTurn, UnfitSlice}
 use Rattle.tape.specs.declared.node.Handle.{Handle}
 use Rattle.tape.specs.declared.tape.Moved.{Moved}
 use Rattle.tape.specs.declared.tape.Moved.the-variants.{Done, Refused}
@@ -20,27 +20,30 @@ number Full = 5
 number SerialsSpent = 6
 number UnsoundEdge = 7
 number ListingTooLong = 8
+number OutOfTurn = 12
+number UnfitSlice = 13
 
 pub record Answer (N : Numbers) : Type 0 where
   pub number : ℕ
   pub value : N .Number
   pub handle : Option Handle
   pub count : ℕ
+  pub left : ℕ
 
-abbrev pub answer : {N : Numbers} → ℕ → N .Number → Option Handle → ℕ → Answer N
-answer k v h n = record { number = k; value = v; handle = h; count = n }
+abbrev pub answer : {N : Numbers} → ℕ → N .Number → Option Handle → ℕ → ℕ → Answer N
+answer k v h n left = record { number = k; value = v; handle = h; count = n; left = left }
 
--- a refusal returns its number, value +0.0, no handle and count 0
+-- a refusal returns its number, value +0.0, no handle, count 0 and nodes left 0
 abbrev pub refused : {N : Numbers} → Refusal → Answer N
-refused {N} r = answer (number r) (N .nought) none 0
+refused {N} r = answer (number r) (N .nought) none 0 0
 
 -- start, stop, marks, rewinds and clearing: nothing but that it was done
 abbrev pub done : {N : Numbers} → Answer N
-done {N} = answer 0 (N .nought) none 0
+done {N} = answer 0 (N .nought) none 0 0
 
 -- a value that is read
 abbrev pub read-value : {N : Numbers} → N .Number → Answer N
-read-value v = answer 0 v none 0
+read-value v = answer 0 v none 0 0
 
 -- a value that stands on no tape
 abbrev pub detached : {N : Numbers} → N .Number → Answer N
@@ -48,11 +51,15 @@ detached v = read-value v
 
 -- edges visited, bytes written, or 1 for a handle that is live and 0 for one that is not
 abbrev pub counted : {N : Numbers} → ℕ → Answer N
-counted {N} n = answer 0 (N .nought) none n
+counted {N} n = answer 0 (N .nought) none n 0
+
+-- edges visited, and nodes left: an opening and a slice
+abbrev pub cut : {N : Numbers} → ℕ → ℕ → Answer N
+cut {N} n left = answer 0 (N .nought) none n left
 
 -- a value and its node's handle
 abbrev pub recorded : {N : Numbers} → N .Number → Handle → Answer N
-recorded v h = answer 0 v (some h) 0
+recorded v h = answer 0 v (some h) 0 0
 
 -- what the code's answer to a start, stop, mark or rewind says, for whatever arrays the caller keeps beside the state
 abbrev pub outcome : Moved → Arrays floats → Answer floats × Machine floats

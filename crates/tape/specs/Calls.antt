@@ -3,17 +3,21 @@ use Prim.Native.Nat.{ℕ, _+_, _-_}
 use mathlib.Core.Bool.{true, false, cond}
 use mathlib.Core.List.{List, [], _∷_, _++_, map}
 use mathlib.Core.Option.{Option, none, some}
+use lib.Dec.{ltb}
 use lib.ListN.{length, set, drop, replicate}
 use lib.Seq.{sets}
 use Rattle.tape.specs.Numbers.{Numbers}
-use Rattle.tape.specs.Machine.{Arrays, Machine, arrays, machine, slot, with-length, with-mark, with-active, with-next}
+use Rattle.tape.specs.Machine.{Arrays, Machine, arrays, machine, slot, with-length, with-mark, with-active, with-next, with-walk, span, walk-left}
 use Rattle.tape.specs.Handles.{Operand, plain, node, operand-value, gradient, is-live-node}
 use Rattle.tape.specs.Operations.{Given, Row, apply}
 use Rattle.tape.specs.Walk.{Edge, walk, edges-at, indexes, visited}
 use Rattle.tape.specs.Listing.{listing}
-use Rattle.tape.specs.Answers.{Answer, done, read-value, detached, recorded, counted}
+use Rattle.tape.specs.Answers.{Answer, done, read-value, detached, recorded, counted, cut}
 use Rattle.tape.specs.declared.node.Handle.{Handle}
+use Rattle.tape.specs.declared.tape.Span.{Span}
 use Rattle.tape.specs.declared.tape.Tape.{Tape}
+use Rattle.tape.specs.declared.tape.Walk.{Walk}
+use Rattle.tape.specs.declared.tape.Walk.the-variants.{Closed, Open}
 
 pub data Move : Type 0 where
   start stop set-mark reset-mark rewind-to-mark rewind-to-init : Move
@@ -29,6 +33,9 @@ pub data Call (N : Numbers) : Type 0 where
   operate : ℕ → Operand N → Operand N → Given N → Call N
   clear : Call N
   pass : Pass N → Call N
+  -- opens the walk of a pass, and continues the one that is open by so many nodes
+  open-pass : Pass N → Call N
+  slice : ℕ → Call N
   value-of adjoint-of is-live : Operand N → Call N
   -- how many bytes are lent for it
   list : ℕ → Call N
@@ -36,7 +43,7 @@ pub data Call (N : Numbers) : Type 0 where
 -- ---- start, stop, marks and rewinds
 
 abbrev pub moved : Move → Tape → Tape
-moved start t = with-active true (with-mark 0 (with-length 0 t))
+moved start t = with-walk Closed (with-active true (with-mark 0 (with-length 0 t)))
 moved stop t = with-active false t
 moved set-mark t = with-mark (t .length) t
 moved reset-mark t = with-mark 0 t
@@ -121,6 +128,38 @@ seeded {N} (node h ∷ os) s = seeded os (set s (h .index) (N .one))
 abbrev pub walked : {N : Numbers} → Plan N → Machine N → Machine N
 walked P M = with-adjoints M (walk (P .from) (map (edges-at (M .lent)) (range P)) (seeded (P .root) (M .lent .adjoint)))
 
+-- ---- passes in slices
+
+abbrev pub nodes-in : Span → ℕ
+nodes-in s = s .end - s .from
+
+abbrev pub span-of : {N : Numbers} → Plan N → Span
+span-of P = span (P .from) (P .end)
+
+-- the machine with these nodes left to be walked
+abbrev pub leaving : {N : Numbers} → Span → Machine N → Machine N
+leaving s M = machine (with-walk (walk-left s) (M .state)) (M .lent)
+
+-- a pass is opened: the adjoint of its root, if it has one, is set to 1.0, and its whole range is left
+abbrev pub opened : {N : Numbers} → Plan N → Machine N → Machine N
+opened P M = leaving (span-of P) (with-adjoints M (seeded (P .root) (M .lent .adjoint)))
+
+-- the nodes that are left of a walk
+abbrev pub left-of : Walk → Span
+left-of Closed = span 0 0
+left-of (Open s) = s
+
+-- a slice of n takes min(n, left) nodes from the top, down to this one
+abbrev pub cut-at : ℕ → Span → ℕ
+cut-at n s = s .end - cond (ltb n (nodes-in s)) n (nodes-in s)
+
+-- the nodes that it takes, and those that it leaves
+abbrev pub slice-plan : {N : Numbers} → ℕ → Span → Plan N
+slice-plan n s = record { root = []; from = cut-at n s; end = s .end }
+
+abbrev pub slice-leaves : ℕ → Span → Span
+slice-leaves n s = span (s .from) (cut-at n s)
+
 -- ---- every call
 
 -- what a call that is not refused does
@@ -131,6 +170,11 @@ carried (operate op left right g) M =
     cond (M .state .active) (recorded (s .value) (issued (M .state)), written M (s .value) (edges left right s)) (detached (s .value), M)
 carried clear M = (done, cleared M)
 carried (pass p) M = let P = plan p (M .state) in (counted (visited (M .lent) (range P)), walked P M)
+carried (open-pass p) M = let P = plan p (M .state) in (cut 0 (nodes-in (span-of P)), opened P M)
+carried {N} (slice n) M =
+    let s = left-of (M .state .walk) in
+    let P : Plan N = slice-plan n s in
+    (cut (visited (M .lent) (range P)) (nodes-in (slice-leaves n s)), leaving (slice-leaves n s) (walked P M))
 carried (value-of x) M = (read-value (operand-value M x), M)
 carried (adjoint-of x) M = (read-value (gradient M x), M)
 carried (is-live x) M = (counted (cond (is-live-node M x) 1 0), M)

@@ -1,13 +1,17 @@
 -- The machine: a small state and six lent arrays. The state is the code's own `Tape`: length, mark, active flag, next
--- serial.
+-- serial and the walk that is open, if one is.
 use Prim.Native.Nat.{ℕ, _*_}
-use mathlib.Core.Bool.{Bool, true, false, _&&_}
+use mathlib.Core.Bool.{Bool, true, false, _&&_, cond}
 use mathlib.Core.List.{List, [], _∷_}
+use lib.Dec.{ltb}
 use lib.ListN.{length}
 use denote.Ref.{RefT}
 use denote.Triple.Both.{Both}
 use Rattle.tape.specs.Numbers.{Numbers, floats}
+use Rattle.tape.specs.declared.tape.Span.{Span}
 use Rattle.tape.specs.declared.tape.Tape.{Tape}
+use Rattle.tape.specs.declared.tape.Walk.{Walk}
+use Rattle.tape.specs.declared.tape.Walk.the-variants.{Closed, Open}
 
 -- value, adjoint, serial and edge count have an entry for each node; edge child and edge partial have two
 pub record Arrays (N : Numbers) : Type 0 where
@@ -49,26 +53,37 @@ all (b ∷ bs) = b && all bs
 
 -- ---- the state
 
--- length 0, mark 0, inactive, the first serial 1
+-- length 0, mark 0, inactive, the first serial 1, no walk open
 abbrev pub new-tape : Tape
-new-tape = record { length = 0; mark = 0; active = false; next = 1 }
+new-tape = record { length = 0; mark = 0; active = false; next = 1; walk = Closed }
 
 -- a state with one field changed
 abbrev pub with-length : ℕ → Tape → Tape
-with-length n t = record { length = n; mark = t .mark; active = t .active; next = t .next }
+with-length n t = record { length = n; mark = t .mark; active = t .active; next = t .next; walk = t .walk }
 
 abbrev pub with-mark : ℕ → Tape → Tape
-with-mark n t = record { length = t .length; mark = n; active = t .active; next = t .next }
+with-mark n t = record { length = t .length; mark = n; active = t .active; next = t .next; walk = t .walk }
 
 abbrev pub with-active : Bool → Tape → Tape
-with-active b t = record { length = t .length; mark = t .mark; active = b; next = t .next }
+with-active b t = record { length = t .length; mark = t .mark; active = b; next = t .next; walk = t .walk }
 
 abbrev pub with-next : ℕ → Tape → Tape
-with-next n t = record { length = t .length; mark = t .mark; active = t .active; next = n }
+with-next n t = record { length = t .length; mark = t .mark; active = t .active; next = n; walk = t .walk }
+
+abbrev pub with-walk : Walk → Tape → Tape
+with-walk w t = record { length = t .length; mark = t .mark; active = t .active; next = t .next; walk = w }
 
 -- a state by its length, mark, active flag and next serial; whatever else it has is a new tape's
 abbrev pub state : ℕ → ℕ → Bool → ℕ → Tape
 state length mark active next = with-length length (with-mark mark (with-active active (with-next next new-tape)))
+
+-- the nodes from end - 1 down to from
+abbrev pub span : ℕ → ℕ → Span
+span from end = record { from = from; end = end }
+
+-- a walk of which these nodes are left: if they are none, it is over
+abbrev pub walk-left : Span → Walk
+walk-left s = cond (ltb (s .from) (s .end)) (Open s) Closed
 
 -- ---- what a call is lent, in a promise
 

@@ -11,12 +11,12 @@ use Rattle.tape.specs.Machine.{Arrays, Machine, arrays, machine, slot, s
 use Rattle.tape.specs.Handles.{Operand, plain, node}
 use Rattle.tape.specs.Operations.{ADD, NEGATE, UNKNOWN}
 use Rattle.tape.specs.Answers.{refused}
-use Rattle.tape.specs.Calls.{Call, pass, backward, backward-to-mark, value-of, adjoint-of, list}
+use Rattle.tape.specs.Calls.{Call, clear, pass, open-pass, slice, backward, backward-to-mark, value-of, adjoint-of, list}
 use Rattle.tape.specs.Refusals.{last-serial}
 use Rattle.tape.specs.Steps.{step}
-use Rattle.tape.specs.Rows.{float, handle, node-at, leaf, binary}
+use Rattle.tape.specs.Rows.{float, handle, node-at, leaf, binary, with-open}
 use Rattle.tape.specs.declared.errors.Refusal.{Refusal}
-use Rattle.tape.specs.declared.errors.Refusal.the-variants.{Misshapen, UnknownOperation, NotLive, Detached, Full, SerialsSpent, UnsoundEdge, ListingTooLong}
+use Rattle.tape.specs.declared.errors.Refusal.the-variants.{Misshapen, UnknownOperation, NotLive, Detached, Full, SerialsSpent, UnsoundEdge, ListingTooLong, OutOfTurn, UnfitSlice}
 
 -- ---- what they meet on
 
@@ -45,6 +45,11 @@ on A = machine (state 2 0 true 3) A
 -- the same with the mark over the length, which is refused 1
 abbrev pub misshapen : Arrays floats → Machine floats
 misshapen A = machine (state 2 3 true 3) A
+
+-- the same with a walk of both nodes open, which everything is refused 12 for but a slice, an adjoint read, the listing
+-- and start
+abbrev pub walking : Machine floats → Machine floats
+walking M = with-open 0 2 M
 
 -- the same with no serial left but the last, which is refused 6
 abbrev pub spent : Arrays floats → Machine floats
@@ -94,3 +99,20 @@ pub record Order : Type 0 where
   pub four-and-seven : Refused (pass (backward-to-mark a-number)) (on unsound) Detached
       × Refused (pass (backward-to-mark (node-at 1))) (on unsound) UnsoundEdge
   pub five-and-six : Refused (leaf (float 5)) (spent full) Full × Refused (leaf (float 5)) (spent roomy) SerialsSpent
+  pub one-and-twelve : Refused clear (walking (misshapen roomy)) Misshapen × Refused clear (walking (on roomy)) OutOfTurn
+  pub one-and-thirteen : Refused (slice 0) (walking (misshapen roomy)) Misshapen
+      × Refused (slice 0) (walking (on roomy)) UnfitSlice
+  pub twelve-and-thirteen : Refused (slice 0) (on roomy) OutOfTurn × Refused (slice 0) (walking (on roomy)) UnfitSlice
+  pub twelve-and-two : Refused (unknown (node-at 0)) (walking (on roomy)) OutOfTurn
+      × Refused (unknown (node-at 0)) (on roomy) UnknownOperation
+  pub twelve-and-three : Refused (value-of stale) (walking (on roomy)) OutOfTurn
+      × Refused (value-of stale) (on roomy) NotLive
+  pub twelve-and-four : Refused (open-pass (backward a-number)) (walking (on roomy)) OutOfTurn
+      × Refused (open-pass (backward a-number)) (on roomy) Detached
+  pub twelve-and-five : Refused (leaf (float 5)) (walking (on full)) OutOfTurn × Refused (leaf (float 5)) (on full) Full
+  pub twelve-and-six : Refused (leaf (float 5)) (walking (spent roomy)) OutOfTurn
+      × Refused (leaf (float 5)) (spent roomy) SerialsSpent
+  pub twelve-and-seven : Refused (open-pass (backward (node-at 1))) (walking (on unsound)) OutOfTurn
+      × Refused (open-pass (backward (node-at 1))) (on unsound) UnsoundEdge
+  pub thirteen-and-seven : Refused (slice 0) (walking (on unsound)) UnfitSlice
+      × Refused (slice 1) (walking (on unsound)) UnsoundEdge

@@ -14,6 +14,7 @@ use Rattle.tape.specs.Calls.{move, reset-mark, Pass, Call, pass, propaga
 use Rattle.tape.specs.Admission.{fits}
 use Rattle.tape.specs.Steps.{step, run}
 use Rattle.tape.specs.Kept.{fresh, after}
+use Rattle.tape.specs.declared.tape.Walk.the-variants.{Closed}
 
 -- document 01's words to the letter, the adjoint of node i read again for each edge
 abbrev pub push-edge-by-edge : {N : Numbers} → ℕ → List (Edge N) → List (N .Number) → List (N .Number)
@@ -44,9 +45,11 @@ pub record OnlyAdjoints : Type 1 where
 
 -- a pass without a root over an empty range changes nothing and counts 0. Proved in proofs/Passes.antt
 pub record EmptyRange : Type 1 where
-  pub to-start : {N : Numbers} (M : Machine N) → fits true M ≡ true → M .state .mark ≡ 0
+  pub to-start : {N : Numbers} (M : Machine N) → fits true M ≡ true → M .state .walk ≡ Closed
+      → M .state .mark ≡ 0
       → step (pass propagate-mark-to-start) M ≡ (counted 0, M)
-  pub to-mark : {N : Numbers} (M : Machine N) → fits true M ≡ true → M .state .mark ≡ M .state .length
+  pub to-mark : {N : Numbers} (M : Machine N) → fits true M ≡ true → M .state .walk ≡ Closed
+      → M .state .mark ≡ M .state .length
       → step (pass propagate-to-mark) M ≡ (counted 0, M)
 
 -- none of these answers is a refusal

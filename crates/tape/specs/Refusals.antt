@@ -7,12 +7,12 @@ use lib.Dec.{ltb, eqb}
 use lib.ListN.{length}
 use Rattle.tape.specs.Numbers.{Numbers}
 use Rattle.tape.specs.Machine.{Machine, capacity, all}
-use Rattle.tape.specs.Admission.{when, let-in}
+use Rattle.tape.specs.Admission.{when, first, let-in}
 use Rattle.tape.specs.Handles.{Operand, live, amiss, handles, any-plain}
 use Rattle.tape.specs.Operations.{known, used}
 use Rattle.tape.specs.Walk.{sound}
 use Rattle.tape.specs.Listing.{listing}
-use Rattle.tape.specs.Calls.{Move, start, stop, set-mark, reset-mark, rewind-to-mark, rewind-to-init, Call, move, operate, clear, pass, value-of, adjoint-of, is-live, list, plan, range}
+use Rattle.tape.specs.Calls.{Move, start, stop, set-mark, reset-mark, rewind-to-mark, rewind-to-init, Pass, Call, move, operate, clear, pass, open-pass, slice, value-of, adjoint-of, is-live, list, plan, left-of, slice-plan, range}
 use Rattle.tape.specs.declared.admission.Caller.{Caller}
 use Rattle.tape.specs.declared.admission.Caller.the-variants as caller
 use Rattle.tape.specs.declared.errors.Refusal.{Refusal}
@@ -68,11 +68,17 @@ mover reset-mark = caller.Move
 mover rewind-to-mark = caller.Move
 mover rewind-to-init = caller.Move
 
+-- a pass asks alike whether it is opened or goes on to its end
+abbrev pub passing : {N : Numbers} → Pass N → Tape → Asked N
+passing p t = with-range (range (plan p t)) (all-on-tape (with-operands (plan p t .root) (asks caller.Passing)))
+
 abbrev pub asked : {N : Numbers} → Call N → Tape → Asked N
 asked (move m) t = asks (mover m)
 asked (operate op left right g) t = with-operation op (with-operands (used op left right) (asks caller.Recording))
 asked clear t = asks caller.Clearing
-asked (pass p) t = with-range (range (plan p t)) (all-on-tape (with-operands (plan p t .root) (asks caller.Passing)))
+asked (pass p) t = passing p t
+asked (open-pass p) t = passing p t
+asked {N} (slice n) t = with-range (range (slice-plan {N = N} n (left-of (t .walk)))) (asks (caller.Slice n))
 asked (value-of x) t = with-operands (x ∷ []) (asks caller.Value)
 asked (adjoint-of x) t = all-on-tape (with-operands (x ∷ []) (asks caller.Adjoint))
 asked (is-live x) t = asks caller.Liveness
@@ -113,11 +119,6 @@ refusals q M =
     ∷ when (not (all (map (sound (M .lent)) (q .range)))) UnsoundEdge
     ∷ when (too-long (q .room) M) ListingTooLong
     ∷ []
-
-abbrev pub first : List (Option Refusal) → Option Refusal
-first [] = none
-first (none ∷ rows) = first rows
-first (some r ∷ rows) = some r
 
 -- the first refusal in the one ordered table, if there is one
 abbrev pub refusal-of : {N : Numbers} → Call N → Machine N → Option Refusal

@@ -8,19 +8,20 @@ use mathlib.Core.Bool.{true, false}
 use mathlib.Core.List.{List, [], _∷_, _++_}
 use lib.IntN.{pos}
 use lib.Ieee.{Float, nan, inf, binary64, ofBits, ofInt, neg}
-use lib.ListN.{replicate}
+use lib.ListN.{take, replicate}
 use Rattle.text.specs.Numerals.{bytes}
 use Rattle.tape.specs.Numbers.{floats}
-use Rattle.tape.specs.Machine.{Arrays, Machine, arrays, machine, most-nodes, slot, state}
+use Rattle.tape.specs.Machine.{Arrays, Machine, arrays, machine, most-nodes, slot, with-walk, state, span}
 use Rattle.tape.specs.Handles.{Operand, plain, node}
 use Rattle.tape.specs.Operations.{Given, LEAF, ADD, MULTIPLY, MAX, MIN, SUPPLIED-ONE, SUPPLIED-TWO, SQRT}
 use Rattle.tape.specs.Listing.{header, listing}
-use Rattle.tape.specs.Answers.{Answer, refused, done, read-value, recorded, counted}
-use Rattle.tape.specs.Calls.{Pass, Call, move, start, set-mark, rewind-to-mark, operate, clear, pass, backward, backward-to-mark, backward-mark-to-start, propagate-to-mark, propagate-mark-to-start, value-of, adjoint-of, is-live, list}
+use Rattle.tape.specs.Answers.{Answer, refused, done, read-value, recorded, counted, cut}
+use Rattle.tape.specs.Calls.{Pass, Call, move, start, stop, set-mark, reset-mark, rewind-to-mark, rewind-to-init, operate, clear, pass, open-pass, slice, backward, backward-to-mark, backward-mark-to-start, propagate-to-mark, propagate-mark-to-start, value-of, adjoint-of, is-live, list}
 use Rattle.tape.specs.Steps.{run}
 use Rattle.tape.specs.Kept.{fresh, after}
-use Rattle.tape.specs.declared.errors.Refusal.the-variants.{Misshapen, NotLive, Detached, UnsoundEdge, ListingTooLong}
+use Rattle.tape.specs.declared.errors.Refusal.the-variants.{Misshapen, NotLive, Detached, UnsoundEdge, ListingTooLong, OutOfTurn, UnfitSlice}
 use Rattle.tape.specs.declared.node.Handle.{Handle}
+use Rattle.tape.specs.declared.tape.Walk.the-variants.{Open}
 
 -- ---- what a row is
 
@@ -391,6 +392,110 @@ EveryRoot =
     × Holds (rooted nan nan nan)
     × Holds (rooted (neg (float 1)) nan nan)
     × Holds (rooted (inf true) nan nan)
+
+-- ---- passes in slices
+
+-- the four nodes, before their pass
+abbrev pub unpassed : List (Call floats)
+unpassed = take 5 four-calls
+
+-- further calls on them, which answer this; then these are the adjoints
+abbrev pub on-unpassed : List (Call floats) → List (Answer floats) → List Float → Row
+on-unpassed calls answers after =
+    record { before = fresh (sevens 5); calls = unpassed ++ calls; answers = take 5 four-answers ++ answers; sights = adjoints after ∷ [] }
+
+-- P2's pass, cut: slices of 1, of 2 and of more than is left, with adjoints read and the nodes listed between them
+abbrev pub cut-in-three : Row
+cut-in-three =
+    on-unpassed
+    (open-pass (backward (node-at 3)) ∷ adjoint-of (node-at 2) ∷ slice 1 ∷ adjoint-of (node-at 0) ∷ slice 2 ∷ list 220 ∷ slice 5 ∷ value-of (node-at 3) ∷ [])
+    (cut 0 4 ∷ read-value (float 0) ∷ cut 2 3 ∷ read-value (float 1) ∷ cut 2 1 ∷ counted 220 ∷ cut 0 0 ∷ read-value (float 9) ∷ [])
+    (float 3 ∷ float 3 ∷ float 1 ∷ float 1 ∷ float 7 ∷ [])
+
+-- an empty range is over when it is opened: the root's seed is set all the same, and nothing is open
+abbrev pub opened-empty : Row
+opened-empty =
+    on-unpassed
+    (open-pass (backward-mark-to-start (node-at 1)) ∷ slice 1 ∷ value-of (node-at 1) ∷ [])
+    (cut 0 0 ∷ refused OutOfTurn ∷ read-value (float 2) ∷ [])
+    (float 0 ∷ float 1 ∷ float 0 ∷ float 0 ∷ float 7 ∷ [])
+
+-- with a walk open everything is refused 12 but a slice, an adjoint read, the listing and start, which drops it
+abbrev pub while-it-is-open : Row
+while-it-is-open =
+    on-unpassed
+    (open-pass propagate-to-mark
+    ∷ move stop ∷ move set-mark ∷ move reset-mark ∷ move rewind-to-mark ∷ move rewind-to-init ∷ leaf (float 5) ∷ clear
+    ∷ pass (backward (node-at 3)) ∷ pass propagate-mark-to-start ∷ open-pass propagate-to-mark ∷ value-of (node-at 3)
+    ∷ is-live (node-at 3)
+    ∷ slice 1 ∷ adjoint-of (node-at 3) ∷ list 220 ∷ move start ∷ slice 1 ∷ leaf (float 5) ∷ [])
+    (cut 0 4
+    ∷ replicate 12 (refused OutOfTurn)
+    ++ (cut 2 3 ∷ read-value (float 0) ∷ counted 220 ∷ done ∷ refused OutOfTurn ∷ recorded (float 5) (handle 0 5) ∷ []))
+    (float 0 ∷ float 0 ∷ float 0 ∷ float 0 ∷ float 7 ∷ [])
+
+-- a machine with these nodes left to be walked
+abbrev pub with-open : ℕ → ℕ → Machine floats → Machine floats
+with-open from end M = machine (with-walk (Open (span from end)) (M .state)) (M .lent)
+
+-- a tape of two nodes with these left
+abbrev pub left-open : ℕ → ℕ → Machine floats
+left-open from end = with-open from end (machine (state 2 0 true 8) (sevens 2))
+
+-- a walk of which no node is left, or that reaches past the length: refused 1, start and stop too
+abbrev pub walk-misshapen : ℕ → ℕ → Row
+walk-misshapen from end = record {
+  before = left-open from end;
+  calls = move start ∷ move stop ∷ slice 1 ∷ clear ∷ adjoint-of (node (handle 0 7)) ∷ list 0 ∷ [];
+  answers = replicate 6 (refused Misshapen);
+  sights = adjoints (float 7 ∷ float 7 ∷ []) ∷ [];
+}
+
+-- one node is a walk; the slice's own nodes are tested for 7, here for their seven edges
+abbrev pub walk-of-one : Row
+walk-of-one = record {
+  before = left-open 1 2;
+  calls = slice 0 ∷ slice 65536 ∷ slice 65535 ∷ move start ∷ [];
+  answers = refused UnfitSlice ∷ refused UnfitSlice ∷ refused UnsoundEdge ∷ done ∷ [];
+  sights = adjoints (float 7 ∷ float 7 ∷ []) ∷ [];
+}
+
+-- node 0 has three edges, which is refused 7, and node 1 has none
+abbrev pub unsound-below : Machine floats
+unsound-below =
+    machine (state 2 0 false 8) (arrays (replicate 2 (float 7)) (replicate 2 (float 7)) (7 ∷ 7 ∷ []) (3 ∷ 0 ∷ []) (replicate 4 0) (replicate 4 (float 1)))
+
+-- a slice tests its own nodes and no others; and while a walk is open an inactive recording is refused too, and what is
+-- asked of a number
+abbrev pub own-nodes : Row
+own-nodes = record {
+  before = with-open 0 2 unsound-below;
+  calls = slice 2 ∷ slice 1 ∷ slice 1 ∷ leaf (float 5) ∷ value-of (plain (float 5)) ∷ is-live (plain (float 5)) ∷ pass propagate-to-mark ∷ [];
+  answers = refused UnsoundEdge ∷ cut 0 1 ∷ refused UnsoundEdge ∷ replicate 4 (refused OutOfTurn);
+  sights = adjoints (float 7 ∷ float 7 ∷ []) ∷ [];
+}
+
+-- an opening tests the whole range, before the seed
+abbrev pub whole-range : Row
+whole-range = record {
+  before = unsound-below;
+  calls = open-pass (backward (node (handle 1 7))) ∷ slice 1 ∷ [];
+  answers = refused UnsoundEdge ∷ refused OutOfTurn ∷ [];
+  sights = adjoints (float 7 ∷ float 7 ∷ []) ∷ [];
+}
+
+-- Proved in proofs/Rows.antt
+abbrev pub EverySlice : Type 0
+EverySlice =
+    Holds cut-in-three
+    × Holds opened-empty
+    × Holds while-it-is-open
+    × Holds (walk-misshapen 1 1)
+    × Holds (walk-misshapen 2 1)
+    × Holds (walk-misshapen 1 3)
+    × Holds walk-of-one
+    × Holds own-nodes
+    × Holds whole-range
 
 -- the header's numbers, where a listing of the rows has too few digits to tell. Proved in proofs/Rows.antt
 abbrev pub EveryText : Type 0

@@ -4,18 +4,21 @@ use crate::errors::Refusal;
 use crate::node::MOST_EDGES;
 use crate::node::MOST_NODES;
 use crate::tape::Tape;
+use crate::tape::Walk;
 ghost use mathlib.Core.Path.{_≡_};
 ghost use mathlib.Core.Bool.{true};
 ghost use Rattle.tape.specs.Machine.{all, lent-before};
-ghost use Rattle.tape.specs.Admission.{lengths, is-lent, state-fits, fitting, admission, admitted};
+ghost use Rattle.tape.specs.Admission.{lengths, is-lent, walk-fits, state-fits, fitting, while-open, while-closed, in-turn, slice-fits, admission, admitted};
 
-// Which call asks to be let in.
+// Which call asks to be let in. A pass asks alike whether it is opened or goes on to its end.
 pub enum Caller {
     Start,
     Move,
     Recording,
     Clearing,
     Passing,
+    // How many nodes it is to take.
+    Slice(usize),
     Value,
     Adjoint,
     Liveness,
@@ -72,14 +75,24 @@ impl Lengths {
 }
 
 impl Tape {
-    // What every call is asked first: whether the state and the arrays that it is lent fit together.
+    // What every call is asked first: whether the state and the arrays that it is lent fit together (1), whether it may
+    // come while a walk is open, or while none is (12), and a slice, whether it is to take 1 to 65,535 nodes (13).
     pub fn admit(self, caller: Caller, lent: Lengths) -> Admission
         ensures { λ x. ⌜ x ≡ admitted (admission caller lent self) ⌝ }
     {
-        if self.is_shaped(is_lent(caller), lent) {
-            return Admission::Granted;
+        let shaped = self.is_shaped(is_lent(caller), lent);
+        let in_turn = self.is_in_turn(caller);
+        let sized = slice_fits(caller);
+        if !shaped {
+            return Admission::Refused(Refusal::Misshapen);
         }
-        Admission::Refused(Refusal::Misshapen)
+        if !in_turn {
+            return Admission::Refused(Refusal::OutOfTurn);
+        }
+        if !sized {
+            return Admission::Refused(Refusal::UnfitSlice);
+        }
+        Admission::Granted
     }
 
     fn is_shaped(self, lending: bool, lent: Lengths) -> bool
@@ -111,7 +124,28 @@ impl Tape {
     fn state_fits(self, most: usize) -> bool
         ensures { λ x. ⌜ x ≡ all (state-fits most self) ⌝ }
     {
-        (self.length <= most) & (self.mark <= self.length) & (self.next != 0)
+        (self.length <= most) & (self.mark <= self.length) & (self.next != 0) & self.walk_fits()
+    }
+
+    // A walk that is open has a node left, and none past the length.
+    fn walk_fits(self) -> bool
+        ensures { λ x. ⌜ x ≡ walk-fits (self .length) (self .walk) ⌝ }
+    {
+        let walk = self.walk;
+        match walk {
+            Walk::Closed => true,
+            Walk::Open(span) => (span.from < span.end) & (span.end <= self.length),
+        }
+    }
+
+    fn is_in_turn(self, caller: Caller) -> bool
+        ensures { λ x. ⌜ x ≡ in-turn (self .walk) caller ⌝ }
+    {
+        let walk = self.walk;
+        match walk {
+            Walk::Closed => while_closed(caller),
+            Walk::Open(_) => while_open(caller),
+        }
     }
 }
 
@@ -125,6 +159,61 @@ fn is_lent(caller: Caller) -> bool
         Caller::Recording => true,
         Caller::Clearing => true,
         Caller::Passing => true,
+        Caller::Slice(_) => true,
+        Caller::Value => true,
+        Caller::Adjoint => true,
+        Caller::Liveness => true,
+        Caller::Listing => true,
+    }
+}
+
+// Whether a call is answered while a walk is open.
+fn while_open(caller: Caller) -> bool
+    ensures { λ x. ⌜ x ≡ while-open caller ⌝ }
+{
+    match caller {
+        Caller::Start => true,
+        Caller::Move => false,
+        Caller::Recording => false,
+        Caller::Clearing => false,
+        Caller::Passing => false,
+        Caller::Slice(_) => true,
+        Caller::Value => false,
+        Caller::Adjoint => true,
+        Caller::Liveness => false,
+        Caller::Listing => true,
+    }
+}
+
+// Whether it is answered while none is.
+fn while_closed(caller: Caller) -> bool
+    ensures { λ x. ⌜ x ≡ while-closed caller ⌝ }
+{
+    match caller {
+        Caller::Start => true,
+        Caller::Move => true,
+        Caller::Recording => true,
+        Caller::Clearing => true,
+        Caller::Passing => true,
+        Caller::Slice(_) => false,
+        Caller::Value => true,
+        Caller::Adjoint => true,
+        Caller::Liveness => true,
+        Caller::Listing => true,
+    }
+}
+
+// A slice takes 1 to 65,535 nodes.
+fn slice_fits(caller: Caller) -> bool
+    ensures { λ x. ⌜ x ≡ slice-fits caller ⌝ }
+{
+    match caller {
+        Caller::Start => true,
+        Caller::Move => true,
+        Caller::Recording => true,
+        Caller::Clearing => true,
+        Caller::Passing => true,
+        Caller::Slice(nodes) => (0 < nodes) & (nodes <= MOST_NODES),
         Caller::Value => true,
         Caller::Adjoint => true,
         Caller::Liveness => true,

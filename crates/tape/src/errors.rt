@@ -11,10 +11,12 @@ pub enum Refusal {
     SerialsSpent,
     UnsoundEdge,
     ListingTooLong,
+    OutOfTurn,
+    UnfitSlice,
 }
 
 impl Refusal {
-    // The refusal's number, 1 to 8.
+    // The refusal's number: 1 to 8, 12 or 13.
     pub fn number(self) -> u8
         ensures { λ x. ⌜ x ≡ number self ⌝ }
     {
@@ -27,6 +29,8 @@ impl Refusal {
             Refusal::SerialsSpent => 6,
             Refusal::UnsoundEdge => 7,
             Refusal::ListingTooLong => 8,
+            Refusal::OutOfTurn => 12,
+            Refusal::UnfitSlice => 13,
         }
     }
 }

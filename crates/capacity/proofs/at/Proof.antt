@@ -12,8 +12,8 @@ use Rattle.capacity.proofs.at.Tie as tie
 front-within : {A : Type 0} (n most : ℕ) (l : List A) → n ≤ most → length (take n l) ≤ most
 front-within n most l h = omega (arith, h, length-take n l)
 
-run-requires : tie.Need-run-requires
-run-requires c κs =
+tapes-requires : tie.Need-tapes-requires
+tapes-requires c κs =
     front-within (c .before .before .before .before .before .before .args .n) 65536 _ (search needs)
 
 pub at-spec : {M : Type 1} → statement M
@@ -32,5 +32,5 @@ at-spec =
     (λ c. sym (length-take-le _ _ (search needs)))
     (λ c. search needs)
     (λ c. sym (length-take-le _ _ (search needs)))
-    run-requires
+    tapes-requires
     (λ c. search needs))

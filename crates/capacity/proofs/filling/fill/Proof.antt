@@ -9,6 +9,7 @@ use Rattle.capacity.proofs.filling.fill.Tie as tie
 abbrev Inv-loop : tie.InvT-loop
 Inv-loop value₀ adjoint₀ serial₀ count₀ child₀ partial₀ leaves filled₀ i₀ value adjoint serial count child partial filled i =
     (i ≤ leaves)
+    × (leaves ≤ 65536)
     × (length value ≡ length value₀)
     × (length adjoint ≡ length adjoint₀)
     × (length serial ≡ length serial₀)

@@ -1,4 +1,4 @@
--- `wind_down` leaves every lent array as long as it was. What the first call kept of `value` lies too far back for
+-- `wind_down` leaves every lent array as long as it was. What the first call kept of each lies too far back for
 -- `search`: the record after the second call leads there.
 use borrow.Author.Needs.{needs}
 use native.Mathlib.Omega.{arith}
@@ -11,4 +11,9 @@ wind-down-spec =
     (tie.spec
     (λ c. search needs) (λ c κs. search needs) (λ c κs. search needs) (λ c κs. search needs) (λ c. search needs) (λ c κs. search needs) (λ c κs. search needs) (λ c κs. search needs)
     (λ c. omega (arith, c .before .before .before .before .before .before .before .before .before .before .before .before))
-    (λ c. search needs) (λ c. search needs) (λ c. search needs) (λ c. search needs) (λ c. search needs) (λ c. search needs))
+    (λ c. omega (arith, c .before .before .before .before .before .before .before .before .before .before .before .before))
+    (λ c. omega (arith, c .before .before .before .before .before .before .before .before .before .before .before .before))
+    (λ c. omega (arith, c .before .before .before .before .before .before .before .before .before .before .before .before))
+    (λ c. omega (arith, c .before .before .before .before .before .before .before .before .before .before .before .before))
+    (λ c. omega (arith, c .before .before .before .before .before .before .before .before .before .before .before .before))
+    (λ c. search needs))

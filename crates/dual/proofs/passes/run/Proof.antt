@@ -3,6 +3,7 @@ use mathlib.Core.Path.{ap, _∙_}
 use denote.Ref.{now}
 use Rattle.tape.specs.Numbers.{floats}
 use Rattle.tape.specs.Machine.{Machine, arrays, machine}
+use Rattle.dual.specs.Outcome.{pass-of}
 use Rattle.dual.specs.Inner.{carried-out}
 use Rattle.dual.proofs.Plans.{carries}
 use Rattle.dual.proofs.passes.run.Statement.{statement}
@@ -23,4 +24,4 @@ run-spec =
     let K = M start in
     c .before .before .carry-out .ensures (K .state) (K .lent .value) (K .lent .serial)
     ∙ ap (λ z. carried-out z K) (c .before .before .before .before .plan .ensures .0)
-    ∙ carries K (start .args .which)))
+    ∙ carries K (pass-of (start .args .which))))

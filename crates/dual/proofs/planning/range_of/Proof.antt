@@ -3,7 +3,7 @@ use Prim.Native.Nat.{_≤_}
 use mathlib.Core.Path.{subst}
 use Rattle.tape.specs.Machine.{most-nodes}
 use Rattle.tape.specs.Calls.{plan}
-use Rattle.dual.specs.Inner.{pass-of}
+use Rattle.dual.specs.Outcome.{pass-of}
 use borrow.Author.Needs.{needs}
 use Rattle.dual.proofs.planning.range_of.Statement.{statement}
 use Rattle.dual.proofs.planning.range_of.Tie as tie

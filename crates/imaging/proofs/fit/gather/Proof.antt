@@ -1,5 +1,5 @@
--- `gather` leaves every lent array as long as it was. That there are few turns, and what the first call kept of one
--- array, lies too far back for `search`: the record after that call leads there.
+-- `gather` leaves every lent array as long as it was. That there are few turns, and what the first call kept of the
+-- arrays, lies too far back for `search`: the record after that call leads there.
 use native.Mathlib.Omega.{arith}
 use borrow.Author.Needs.{needs}
 use Rattle.imaging.proofs.fit.gather.Statement.{statement}
@@ -12,5 +12,9 @@ gather-spec =
     (λ c κs. search needs)
     (λ c κs. omega (arith, c .before .before .before .before .before .before .before .before .before .before .before .before))
     (λ c. omega (arith, c .before .before .before .before .before .before .before .before .before .before .before .before))
-    (λ c. search needs) (λ c. search needs) (λ c. search needs) (λ c. search needs) (λ c. search needs)
+    (λ c. omega (arith, c .before .before .before .before .before .before .before .before .before .before .before .before))
+    (λ c. omega (arith, c .before .before .before .before .before .before .before .before .before .before .before .before))
+    (λ c. omega (arith, c .before .before .before .before .before .before .before .before .before .before .before .before))
+    (λ c. omega (arith, c .before .before .before .before .before .before .before .before .before .before .before .before))
+    (λ c. omega (arith, c .before .before .before .before .before .before .before .before .before .before .before .before))
     (λ c. search needs))

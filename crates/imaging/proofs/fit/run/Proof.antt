@@ -31,7 +31,7 @@ run-spec =
     (λ c κs. omega (arith, c .before .before .before .before .before .before .before .before .before .before .before .before))
     (λ c. omega (arith, c .before .before .before .before .before .before .before .before .before .before .before .before .before))
     (λ c. omega (arith, c .before .before .before .before .before .before .before .before .before .before .before .before .before))
-    (λ c. omega (arith, c .before .before .before .before .before .before .before .before .before .before .before .before .before))
+    (λ c. let loop = c .before .before .before .before .before .before .before .before .before .before .before .before .before .before .before .before .before .before .before .before .before .before .before .before in let done = c .before .before .before .before .before .before .before .before .before .before .before .before .before in omega (arith, loop, done))
     (λ c. search needs) (λ c. search needs) (λ c. search needs) (λ c. search needs) (λ c. search needs)
     (λ c. search needs) (λ c. search needs) (λ c. search needs) (λ c. search needs) (λ c. search needs)
     (λ c. search needs) (λ c. search needs) (λ c. search needs) (λ c. search needs))

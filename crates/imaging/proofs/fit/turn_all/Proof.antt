@@ -1,7 +1,9 @@
 -- `turn_all` is safe and ends: the index stays within the turns, and no lent array changes its length.
+-- What is known of the index lies too far back for `search`: the record in the loop leads there.
 use mathlib.Core.Path.{_≡_}
 use Prim.Native.Nat.{_≤_, _-_}
 use lib.ListN.{length}
+use native.Mathlib.Omega.{arith}
 use borrow.Author.Needs.{needs}
 use Rattle.imaging.proofs.fit.turn_all.Statement.{statement}
 use Rattle.imaging.proofs.fit.turn_all.Tie as tie
@@ -27,6 +29,9 @@ turn-all-spec =
     Inv-loop
     μ-loop
     (λ c. search needs) (λ c. search needs) (λ c. search needs) (λ c κs. search needs) (λ c κs. search needs)
-    (λ c κs. search needs) (λ c. search needs) (λ c. search needs) (λ c. search needs) (λ c. search needs)
+    (λ c κs. search needs)
+    (λ c. omega (arith, c .before .before .before .before .before .before .before .before .before .before .before .before .before .before .before .before .before .before .before .before .before .before))
+    (λ c. search needs)
+    (λ c. let loop = c .before .before .before .before .before .before .before .before .before .before .before .before .before .before .before .before .before .before .before .before .before .before in let done = c .before .before .before .before .before .before .before .before .before .before .before .before in omega (arith, loop, done))
     (λ c. search needs) (λ c. search needs) (λ c. search needs) (λ c. search needs) (λ c. search needs)
-    (λ c. search needs))
+    (λ c. search needs) (λ c. search needs))

@@ -1,4 +1,4 @@
--- `one_line` leaves every lent array as long as it was. What the call kept of four of them lies too far back for
+-- `one_line` leaves every lent array as long as it was. What the call kept of five of them lies too far back for
 -- `search`.
 use borrow.Author.Needs.{needs}
 use native.Mathlib.Omega.{arith}
@@ -13,10 +13,11 @@ pub one-line-spec : {M : Type 1} → statement M
 one-line-spec =
     tie.close
     (tie.spec
-    (λ c κs. search needs) (λ c κs. search needs) (λ c. search needs) (λ c κs. search needs) (λ c κs. search needs) (λ c. search needs) (λ c κs. search needs) (λ c κs. search needs) (λ c κs. search needs) (λ c κs. search needs) (λ c κs. search needs) (λ c κs. search needs) (λ c κs. search needs)
+    (λ c κs. search needs) (λ c κs. search needs) (λ c. search needs) (λ c κs. search needs) (λ c κs. search needs) (λ c. search needs) (λ c κs. search needs) (λ c κs. search needs) (λ c κs. search needs) (λ c κs. search needs) (λ c κs. search needs)
     (λ c. search needs)
     (λ c. omega (arith, carried c))
     (λ c. omega (arith, carried c))
     (λ c. omega (arith, carried c))
     (λ c. omega (arith, carried c))
-    (λ c. search needs) (λ c. search needs) (λ c. search needs))
+    (λ c. omega (arith, carried c))
+    (λ c. search needs) (λ c. search needs))
