@@ -240,6 +240,9 @@ module _ {N : Numbers} where
   over-none : (M : Machine N) → Over M → nodes-left M ≡ 0
   over-none M e = rw e
 
+  left-after : (n : ℕ) (M : Machine N) → nodes-left (carried (slice n) M .1) ≡ nodes-left M - n
+  left-after n M = let s = left-of (M .state .walk) in nodes-again (slice-leaves n s) ∙ fewer n s
+
   -- c slices of n, while there are nodes for the last of them
   record GoneOn (n c : ℕ) (M : Machine N) : Type 0 where
     unrefused : Unrefused (run (map slice (replicate c n)) M .0)
@@ -252,7 +255,7 @@ module _ {N : Numbers} where
       let a = passes (slice n) M (takes n M g some few (omega arith)) in
       let L = step (slice n) M .1 in
       let g′ : Going L = rw (a .carries) (sliced-going n M g) in
-      let fewer-left : nodes-left L ≡ nodes-left M - n = ap (λ x. nodes-left (x .1)) (a .carries) ∙ nodes-again (slice-leaves n (left-of (M .state .walk))) ∙ fewer n (left-of (M .state .walk)) in
+      let fewer-left : nodes-left L ≡ nodes-left M - n = rw (a .carries) (left-after n M) in
       let rest = goes-on n c some few L g′ (omega arith) in
       record { unrefused = (answers a, rest .unrefused); going = rest .going; left = omega (arith, rest .left, fewer-left) }
 

@@ -17,7 +17,7 @@ use Rattle.tape.specs.declared.tape.Span.{Span}
 use Rattle.tape.specs.declared.tape.Walk.the-variants.{Open}
 use Rattle.tape.proofs.Passes.{carried-number}
 use Rattle.tape.proofs.Steps.{by-refusal, by-table}
-use Rattle.tape.proofs.Tests.{is-false, walk-fit, fit, state-fit, state-fit-so}
+use Rattle.tape.proofs.Tests.{is-false, walk-fit, fit, state-fit}
 
 abbrev caller-of : {N : Numbers} → Call N → Machine N → Caller
 caller-of c M = asked c (M .state) .caller
@@ -25,20 +25,20 @@ caller-of c M = asked c (M .state) .caller
 -- ---- refused at the head
 
 module _ {N : Numbers} (c : Call N) (M : Machine N) where
-  misshapen : fits (is-lent (caller-of c M)) M ≡ false → step c M ≡ (refused Misshapen, M)
+  abbrev shaped : Bool
+  shaped = fits (is-lent (caller-of c M)) M
+
+  misshapen : shaped ≡ false → step c M ≡ (refused Misshapen, M)
   unfolding step
   misshapen e = rw e
 
-  out-of-turn : fits (is-lent (caller-of c M)) M ≡ true → in-turn (M .state .walk) (caller-of c M) ≡ false → step c M ≡ (refused OutOfTurn, M)
+  by-shape : (b : Bool) → shaped ≡ b → in-turn (M .state .walk) (caller-of c M) ≡ false → (step c M .0 .number ≡ 1 → ⊥) → step c M ≡ (refused OutOfTurn, M)
   unfolding step
-  out-of-turn shape e = rw (shape, e)
+  by-shape true shape e fit = rw (shape, e)
+  by-shape false shape e fit = absurd (fit (ap (λ x. x .0 .number) (misshapen shape)))
 
--- what fits with its arrays fits without
-fits-either : {N : Numbers} (lent : Bool) (M : Machine N) → fits true M ≡ true → fits lent M ≡ true
-fits-either true M e = e
-fits-either false M e =
-    let f = fit M e in
-    state-fit-so most-nodes (M .state) (record { length = omega arith; mark = f .state .mark; next = f .state .next; walk = f .state .walk })
+  out-of-turn : in-turn (M .state .walk) (caller-of c M) ≡ false → (step c M .0 .number ≡ 1 → ⊥) → step c M ≡ (refused OutOfTurn, M)
+  out-of-turn = by-shape shaped refl
 
 unfit : {N : Numbers} (lent : Bool) (M : Machine N) → walk-fits (M .state .length) (M .state .walk) ≡ false → fits lent M ≡ false
 unfit true M w = is-false _ (λ e. true≢false (sym (fit M e .state .walk) ∙ w))
@@ -104,8 +104,8 @@ module _ {N : Numbers} (c : Call N) (M : Machine N) (s : Span) (e : M .state .wa
 
 pub turns : Turns
 turns = record {
-  others = λ c M s shape e other. out-of-turn c M (fits-either (is-lent (caller-of c M)) M shape) (ap (λ w. in-turn w (caller-of c M)) e ∙ along c M ∙ other);
-  none-open = λ n M shape e. out-of-turn (slice n) M shape (ap (λ w. in-turn w (caller-of (slice n) M)) e);
+  others = λ c M s e other. out-of-turn c M (ap (λ w. in-turn w (caller-of c M)) e ∙ along c M ∙ other);
+  none-open = λ n M e. out-of-turn (slice n) M (ap (λ w. in-turn w (caller-of (slice n) M)) e);
   in-turn = λ c M s e goes. not-twelve c M (ap (λ w. in-turn w (caller-of c M)) e ∙ along c M ∙ goes);
   over = λ c M e other. not-twelve c M (ap (λ w. in-turn w (caller-of c M)) e ∙ any-but-slice c M other);
   no-node-left = λ c M s e h. walk-unfit c M s e (is-false _ (λ f. omega (arith, walk-fit (M .state .length) s f)));

@@ -8,7 +8,6 @@ use mathlib.Core.List.{List, _∷_, map}
 use lib.ListN.{length, replicate}
 use Rattle.tape.specs.Numbers.{Numbers}
 use Rattle.tape.specs.Machine.{Machine, machine, most-nodes, with-walk}
-use Rattle.tape.specs.Admission.{fits}
 use Rattle.tape.specs.Answers.{refused}
 use Rattle.tape.specs.Calls.{move, start, stop, set-mark, reset-mark, rewind-to-mark, rewind-to-init, Pass, Call, operate, clear, pass, open-pass, slice, value-of, adjoint-of, is-live, list, with-adjoints, plan, range, nodes-in, left-of}
 use Rattle.tape.specs.Refusals.{refusal-of}
@@ -49,14 +48,14 @@ goes-along (open-pass p) = false
 goes-along (value-of x) = false
 goes-along (is-live x) = false
 
--- On a machine that fits, every other call is refused 12 while a walk is open, and a slice while none is; nothing else
+-- Unless it is refused 1, every other call is refused 12 while a walk is open, and a slice while none is; nothing else
 -- is. With a walk open that has no node left, or that reaches past the length, every call is refused 1. Proved in
 -- proofs/Turns.antt
 pub record Turns : Type 1 where
-  pub others : {N : Numbers} (c : Call N) (M : Machine N) (s : Span) → fits true M ≡ true → M .state .walk ≡ Open s
-      → goes-along c ≡ false
+  pub others : {N : Numbers} (c : Call N) (M : Machine N) (s : Span) → M .state .walk ≡ Open s → goes-along c ≡ false
+      → (step c M .0 .number ≡ 1 → ⊥)
       → step c M ≡ (refused OutOfTurn, M)
-  pub none-open : {N : Numbers} (n : ℕ) (M : Machine N) → fits true M ≡ true → Over M
+  pub none-open : {N : Numbers} (n : ℕ) (M : Machine N) → Over M → (step (slice n) M .0 .number ≡ 1 → ⊥)
       → step (slice n) M ≡ (refused OutOfTurn, M)
   pub in-turn : {N : Numbers} (c : Call N) (M : Machine N) (s : Span) → M .state .walk ≡ Open s → goes-along c ≡ true
       → step c M .0 .number ≡ 12 → ⊥
