@@ -31,5 +31,13 @@ order = record {
   twelve-and-five = (refl, refl);
   twelve-and-six = (refl, refl);
   twelve-and-seven = (refl, refl);
+  one-and-eleven = (refl, refl);
+  twelve-and-eleven = (refl, refl);
+  two-and-eleven = (refl, refl);
+  three-and-eleven = (refl, refl);
+  eleven-and-three = (refl, refl);
+  eleven-and-five = (refl, refl);
+  eleven-and-six = (refl, refl);
+  eleven-and-seven = (refl, refl);
   thirteen-and-seven = (refl, refl);
 }

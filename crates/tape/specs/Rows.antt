@@ -19,7 +19,7 @@ use Rattle.tape.specs.Answers.{Answer, refused, done, read-value, record
 use Rattle.tape.specs.Calls.{Pass, Call, move, start, stop, set-mark, reset-mark, rewind-to-mark, rewind-to-init, operate, clear, pass, open-pass, slice, backward, backward-to-mark, backward-mark-to-start, propagate-to-mark, propagate-mark-to-start, value-of, adjoint-of, is-live, list}
 use Rattle.tape.specs.Steps.{run}
 use Rattle.tape.specs.Kept.{fresh, after}
-use Rattle.tape.specs.declared.errors.Refusal.the-variants.{Misshapen, NotLive, Detached, UnsoundEdge, ListingTooLong, OutOfTurn, UnfitSlice}
+use Rattle.tape.specs.declared.errors.Refusal.the-variants.{Misshapen, Stale, Detached, UnsoundEdge, ListingTooLong, OutOfTurn, UnfitSlice}
 use Rattle.tape.specs.declared.node.Handle.{Handle}
 use Rattle.tape.specs.declared.tape.Walk.the-variants.{Open}
 
@@ -210,7 +210,7 @@ P8 =
       answers =
           done ∷ recorded (float 3) (first 0) ∷ done ∷ recorded (float 6) (handle 1 2) ∷ counted 2 ∷ counted 1 ∷ done
           ∷ recorded (float 2) (handle 1 3)
-          ∷ read-value (float 0) ∷ refused NotLive ∷ refused NotLive ∷ refused NotLive ∷ refused NotLive ∷ counted 0
+          ∷ read-value (float 0) ∷ refused Stale ∷ refused Stale ∷ refused Stale ∷ refused Stale ∷ counted 2
           ∷ counted 1 ∷ [];
       sights = adjoints (float 2 ∷ float 0 ∷ []) ∷ [];
     }
@@ -265,7 +265,7 @@ left-first = record {
 abbrev pub clearing : Row
 clearing = on-four (clear ∷ []) (done ∷ []) (adjoints (float 0 ∷ float 0 ∷ float 0 ∷ float 0 ∷ float 7 ∷ []) ∷ [])
 
--- plain numbers: read as they are, not live, and refused 4 as a root and where an adjoint is read
+-- plain numbers: read as they are, found to be numbers, and refused 4 as a root and where an adjoint is read
 abbrev pub plain-numbers : Row
 plain-numbers =
     let x = plain (float 5) in
@@ -286,7 +286,7 @@ own-child = record {
   sights = adjoints (float 7 ∷ float 7 ∷ float 1 ∷ []) ∷ [];
 }
 
--- three edges are refused 7, but after 3 for a root that is not live, and not where the walk does not reach them; a root
+-- three edges are refused 7, but after 3 for a stale root, and not where the walk does not reach them; a root
 -- that is a number is refused 4
 abbrev pub three-edges : Row
 three-edges = record {
@@ -295,7 +295,7 @@ three-edges = record {
   calls =
       pass (backward (node (handle 1 7))) ∷ pass (backward (node (handle 1 6))) ∷ pass (backward (plain (float 1)))
       ∷ pass (backward (node (handle 0 7))) ∷ [];
-  answers = refused UnsoundEdge ∷ refused NotLive ∷ refused Detached ∷ counted 0 ∷ [];
+  answers = refused UnsoundEdge ∷ refused Stale ∷ refused Detached ∷ counted 0 ∷ [];
   sights = adjoints (float 1 ∷ float 7 ∷ []) ∷ [];
 }
 

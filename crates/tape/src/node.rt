@@ -24,7 +24,8 @@ pub enum Operand {
 // What a lookup finds behind a handle.
 pub enum Lookup {
     Live,
-    NotLive,
+    Stale,
+    NeverIssued,
 }
 
 // Whether a call may use a handle, or why it is refused.
@@ -40,14 +41,20 @@ impl Handle {
         serial: 0,
     };
 
-    // Whether the handle is live on a tape with these serials.
+    // Whether the handle is live on a tape with these serials and, if it is not, whether its serial was given out.
     pub fn lookup(self, tape: Tape, serial: &[u64]) -> Lookup
         ensures { λ x. ⌜ x ≡ looked-up tape (now (serial .entry)) self ⌝ }
     {
         if self.lives(tape.length, serial) {
             return Lookup::Live;
         }
-        Lookup::NotLive
+        if self.serial == 0 {
+            return Lookup::NeverIssued;
+        }
+        if self.serial < tape.next {
+            return Lookup::Stale;
+        }
+        Lookup::NeverIssued
     }
 
     // The same for a call that needs a live one: what is not live is refused, in this one place.
@@ -56,7 +63,8 @@ impl Handle {
     {
         match self.lookup(tape, serial) {
             Lookup::Live => Usable::Live,
-            Lookup::NotLive => Usable::Refused(Refusal::NotLive),
+            Lookup::Stale => Usable::Refused(Refusal::Stale),
+            Lookup::NeverIssued => Usable::Refused(Refusal::NeverIssued),
         }
     }
 

@@ -10,6 +10,7 @@ usable-spec =
     tie.close
     (tie.spec
     (λ _ _. tt)
-    (λ c. search needs) (λ c. search needs)
+    (λ c. search needs) (λ c. search needs) (λ c. search needs)
     (λ c. let a = c .before .before .before .before .args in sorted _ _ (a .tape) (now (a .serial)) (a .self) (c .before .before .lookup .ensures) (c .enum-told .given .1))
-    (λ c. let a = c .before .before .before .before .args in sorted _ _ (a .tape) (now (a .serial)) (a .self) (c .before .before .lookup .ensures) (c .enum-told2 .given .1)))
+    (λ c. let a = c .before .before .before .before .args in sorted _ _ (a .tape) (now (a .serial)) (a .self) (c .before .before .lookup .ensures) (c .enum-told2 .given .1))
+    (λ c. let a = c .before .before .before .before .args in sorted _ _ (a .tape) (now (a .serial)) (a .self) (c .before .before .lookup .ensures) (c .enum-told3 .given .1)))
