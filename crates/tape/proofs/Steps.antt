@@ -52,7 +52,7 @@ abbrev AllNone : List (Option Refusal) → Type 0
 AllNone [] = Unit {0}
 AllNone (o ∷ os) = (o ≡ none) × AllNone os
 
-pub not-some : {P : Type 0} {r : Refusal} → some r ≡ none → P
+pub not-some : {A P : Type 0} {x : A} → some x ≡ none → P
 not-some e = let z : _≡_ {A = ℕ} 0 1 = cc in absurd (omega arith)
 
 all-none : (os : List (Option Refusal)) → first os ≡ none → AllNone os

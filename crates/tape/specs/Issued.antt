@@ -1,6 +1,6 @@
 -- What refusals 3 and 11 tell of a handle, over any numbers: 11, that it is garbage; 3, of a handle that a call
 -- answered, that its node was rewound or the tape started anew. Garbage whose serial happens to have been given out is
--- refused 3 as well, since the serial alone sorts what is not live (`garbage` in Rows.antt).
+-- refused 3 as well, since the serial alone sorts what is not live (`given-elsewhere` in Rows.antt).
 use Prim.Native.Nat.{ℕ, suc}
 use mathlib.Core.Path.{_≡_}
 use mathlib.Core.Bool.{Bool, true, false, not, cond}
@@ -10,7 +10,7 @@ use lib.Dec.{eqb}
 use Rattle.tape.specs.Numbers.{Numbers, floats}
 use Rattle.tape.specs.Machine.{Arrays, Machine, all}
 use Rattle.tape.specs.Handles.{node, live, handles}
-use Rattle.tape.specs.Answers.{refused, counted}
+use Rattle.tape.specs.Answers.{refused}
 use Rattle.tape.specs.Calls.{Call, Move, start, stop, set-mark, reset-mark, rewind-to-mark, rewind-to-init, move, operate, clear, pass, open-pass, slice, value-of, adjoint-of, is-live, list}
 use Rattle.tape.specs.Refusals.{asked}
 use Rattle.tape.specs.Steps.{step, run}
@@ -67,9 +67,9 @@ pub record Sorting : Type 1 where
   pub three-for-one : {N : Numbers} (c : Call N) (M : Machine N) → step c M .0 .number ≡ 3 → ForOne Stale c M
   pub eleven-for-one : {N : Numbers} (c : Call N) (M : Machine N) → step c M .0 .number ≡ 11 → ForOne NeverIssued c M
   -- is_live counts 2 or 3 for a handle that is refused 3 or 11 where it is read
-  pub two-is-three : {N : Numbers} (h : Handle) (M : Machine N) → step (is-live (node h)) M .0 ≡ counted 2
+  pub two-is-three : {N : Numbers} (h : Handle) (M : Machine N) → step (is-live (node h)) M .0 .count ≡ 2
       → RefusedFor h Stale (value-of (node h)) M
-  pub three-is-eleven : {N : Numbers} (h : Handle) (M : Machine N) → step (is-live (node h)) M .0 ≡ counted 3
+  pub three-is-eleven : {N : Numbers} (h : Handle) (M : Machine N) → step (is-live (node h)) M .0 .count ≡ 3
       → RefusedFor h NeverIssued (value-of (node h)) M
   -- a handle that a call answered is never refused 11, whatever calls follow
   pub never-eleven : {N : Numbers} (c : Call N) (M : Machine N) (h : Handle) (later : List (Call N)) (d : Call N)

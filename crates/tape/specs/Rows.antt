@@ -17,9 +17,11 @@ use Rattle.tape.specs.Operations.{Given, LEAF, ADD, MULTIPLY, MAX, MIN, 
 use Rattle.tape.specs.Listing.{header, listing}
 use Rattle.tape.specs.Answers.{Answer, refused, done, read-value, recorded, counted, cut}
 use Rattle.tape.specs.Calls.{Pass, Call, move, start, stop, set-mark, reset-mark, rewind-to-mark, rewind-to-init, operate, clear, pass, open-pass, slice, backward, backward-to-mark, backward-mark-to-start, propagate-to-mark, propagate-mark-to-start, value-of, adjoint-of, is-live, list}
+use Rattle.tape.specs.Refusals.{last-serial}
 use Rattle.tape.specs.Steps.{run}
 use Rattle.tape.specs.Kept.{fresh, after}
-use Rattle.tape.specs.declared.errors.Refusal.the-variants.{Misshapen, Stale, Detached, UnsoundEdge, ListingTooLong, OutOfTurn, UnfitSlice}
+use Rattle.tape.specs.declared.errors.Refusal.{Refusal}
+use Rattle.tape.specs.declared.errors.Refusal.the-variants.{Misshapen, Stale, Detached, UnsoundEdge, ListingTooLong, NeverIssued, OutOfTurn, UnfitSlice}
 use Rattle.tape.specs.declared.node.Handle.{Handle}
 use Rattle.tape.specs.declared.tape.Walk.the-variants.{Open}
 
@@ -496,6 +498,65 @@ EverySlice =
     × Holds walk-of-one
     × Holds own-nodes
     × Holds whole-range
+
+-- ---- handles that are not live
+
+-- what a handle meets that is read, is asked about, is a root, and is an operand
+abbrev pub tries : Handle → List (Call floats)
+tries h =
+    let x = node h in
+    value-of x ∷ adjoint-of x ∷ is-live x ∷ pass (backward x) ∷ open-pass (backward-to-mark x) ∷ plus x x ∷ []
+
+-- as which it is refused, and what is_live counts for it
+abbrev pub met : Refusal → ℕ → List (Answer floats)
+met r k = refused r ∷ refused r ∷ counted k ∷ refused r ∷ refused r ∷ refused r ∷ []
+
+-- on the four nodes, which have serials 1 to 4, a handle that is refused so
+abbrev pub refused-on-four : Refusal → ℕ → Handle → Row
+refused-on-four r k h = on-four (tries h) (met r k) (four-adjoints ∷ [])
+
+-- serial 0, the next serial and the largest were given to no node, whatever the index
+abbrev pub never-given : Handle → Row
+never-given h = refused-on-four NeverIssued 3 h
+
+-- serials 1 to 4 were, but to another node than this index says, which may be past the length: garbage, refused 3
+abbrev pub given-elsewhere : Handle → Row
+given-elsewhere h = refused-on-four Stale 2 h
+
+-- the first operand that is not live decides, left before right; a right operand that is not used does not
+abbrev pub left-decides : Row
+left-decides =
+    let old = node (handle 4 4) in
+    let made-up = node (handle 1 5) in
+    on-four
+    (plus old made-up ∷ plus made-up old ∷ plus (node-at 0) made-up ∷ plus (node-at 0) old ∷ plus (plain (float 5)) made-up ∷ binary SQRT old made-up ∷ binary SQRT made-up old ∷ [])
+    (refused Stale ∷ refused NeverIssued ∷ refused NeverIssued ∷ refused Stale ∷ refused NeverIssued ∷ refused Stale ∷ refused NeverIssued ∷ [])
+    (four-adjoints ∷ [])
+
+-- a tape that no calls left: a handle whose serial is not below the next one is live, if it is stored at its index
+abbrev pub live-first : Row
+live-first = record {
+  before = machine (state 1 0 true 3) (sevens 1);
+  calls = value-of (node (handle 0 7)) ∷ is-live (node (handle 0 7)) ∷ value-of (node (handle 0 3)) ∷ value-of (node (handle 0 2)) ∷ [];
+  answers = read-value (float 7) ∷ counted 1 ∷ refused NeverIssued ∷ refused Stale ∷ [];
+  sights = [];
+}
+
+-- Proved in proofs/Rows.antt
+abbrev pub EveryHandle : Type 0
+EveryHandle =
+    Holds (never-given (handle 0 0))
+    × Holds (never-given (handle 0 5))
+    × Holds (never-given (handle 0 last-serial))
+    × Holds (never-given (handle 4 0))
+    × Holds (never-given (handle 4 5))
+    × Holds (never-given (handle 9 5))
+    × Holds (given-elsewhere (handle 0 4))
+    × Holds (given-elsewhere (handle 1 1))
+    × Holds (given-elsewhere (handle 4 4))
+    × Holds (given-elsewhere (handle 9 1))
+    × Holds left-decides
+    × Holds live-first
 
 -- the header's numbers, where a listing of the rows has too few digits to tell. Proved in proofs/Rows.antt
 abbrev pub EveryText : Type 0
