@@ -2,7 +2,8 @@
 use crate::errors::Refusal;
 use crate::tape::Tape;
 ghost use mathlib.Core.Path.{_≡_};
-ghost use Rattle.tape.specs.Handles.{lives, looked-up, usable-as};
+ghost use mathlib.Core.Bool.{cond};
+ghost use Rattle.tape.specs.Handles.{lives, never-issued, looked-up, usable-as};
 
 // How many nodes a tape has room for, so that a child's index fits 16 bits.
 pub const MOST_NODES: usize = 65_535;
@@ -45,16 +46,7 @@ impl Handle {
     pub fn lookup(self, tape: Tape, serial: &[u64]) -> Lookup
         ensures { λ x. ⌜ x ≡ looked-up tape (now (serial .entry)) self ⌝ }
     {
-        if self.lives(tape.length, serial) {
-            return Lookup::Live;
-        }
-        if self.serial == 0 {
-            return Lookup::NeverIssued;
-        }
-        if self.serial < tape.next {
-            return Lookup::Stale;
-        }
-        Lookup::NeverIssued
+        Lookup::of(self.lives(tape.length, serial), self.never_issued(tape))
     }
 
     // The same for a call that needs a live one: what is not live is refused, in this one place.
@@ -83,5 +75,33 @@ impl Handle {
         }
         let stored = serial[index];
         stored == self.serial
+    }
+
+    // Whether no node was given its serial, now or before.
+    fn never_issued(self, tape: Tape) -> bool
+        ensures { λ x. ⌜ x ≡ never-issued tape self ⌝ }
+    {
+        if self.serial == 0 {
+            return true;
+        }
+        if self.serial < tape.next {
+            return false;
+        }
+        true
+    }
+}
+
+impl Lookup {
+    // Liveness is asked first: only what is not live is sorted by its serial.
+    fn of(lives: bool, unissued: bool) -> Lookup
+        ensures { λ x. ⌜ x ≡ cond lives Lookup.Live (cond unissued Lookup.NeverIssued Lookup.Stale) ⌝ }
+    {
+        if lives {
+            return Lookup::Live;
+        }
+        if unissued {
+            return Lookup::NeverIssued;
+        }
+        Lookup::Stale
     }
 }
