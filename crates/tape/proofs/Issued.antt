@@ -19,7 +19,7 @@ use Rattle.tape.specs.Admission.{in-turn}
 use Rattle.tape.specs.Refusals.{asked, refusal-of}
 use Rattle.tape.specs.Steps.{step, run}
 use Rattle.tape.specs.Kept.{fresh, after, serials, serial-of, Ascending, NoneNought}
-use Rattle.tape.specs.Issued.{first-not-live, RefusedFor, ForOne, how-often, takes-off, leaves-nodes, Sorting, Unanswered}
+use Rattle.tape.specs.Issued.{first-not-live, RefusedFor, how-often, takes-off, leaves-nodes, Sorting, Unanswered}
 use Rattle.tape.specs.declared.admission.Caller.the-variants as caller
 use Rattle.tape.specs.declared.errors.Refusal.{Refusal}
 use Rattle.tape.specs.declared.errors.Refusal.the-variants.{Stale, NeverIssued}
@@ -27,10 +27,10 @@ use Rattle.tape.specs.declared.node.Handle.{Handle}
 use Rattle.tape.specs.declared.tape.Tape.{Tape}
 use Rattle.tape.specs.declared.tape.Walk.{Walk}
 use Rattle.tape.specs.declared.tape.Walk.the-variants.{Closed, Open}
-use Rattle.tape.proofs.OneToOne.{one-to-one}
+use Rattle.tape.proofs.OneToOne.{never-nought, one-to-one}
 use Rattle.tape.proofs.Passes.{carried-number}
 use Rattle.tape.proofs.Recording.{recording}
-use Rattle.tape.proofs.Serials.{serials-kept, never-fall}
+use Rattle.tape.proofs.Serials.{serials-kept}
 use Rattle.tape.proofs.Steps.{not-some, by-refusal, by-table, Passed, granted, Effect, keeps, records, effect, Lives, lives-parts, lives-so}
 use Rattle.tape.proofs.Tests.{by-test, by-or, or-false}
 
@@ -74,16 +74,14 @@ module _ {N : Numbers} (c : Call N) (M : Machine N) where
       (λ _. neither _ (λ e. omega (arith, carried-number c M)) (λ e. omega (arith, carried-number c M)))
 
   -- and the call did nothing
-  refused-so : (r : Refusal) → step c M .0 .number ≡ number r → (number r ≡ 0 → ⊥) → step c M ≡ (refused r, M)
-  refused-so r e some-number =
+  refused-so : (r : Refusal) → step c M .0 .number ≡ number r → step c M ≡ (refused r, M)
+  refused-so r =
       by-refusal (λ x. x .0 .number ≡ number r → x ≡ (refused r, M)) c M
       (λ s _ e. let same : s ≡ r = one-to-one .numbers s r e in ap (λ k. (refused k, M)) same)
-      (λ _ e. absurd (some-number (sym e ∙ carried-number c M)))
-      e
+      (λ _ e. absurd (never-nought r (sym e ∙ carried-number c M)))
 
-  for-one : (r : Refusal) (never : Bool) → (number r ≡ 0 → ⊥) → step c M .0 .number ≡ number r → Sorted c M never → ForOne r c M
-  for-one r never some-number e s =
-      record { handle = s .handle; refused-for = record { refused = refused-so r e some-number; not-live = s .first } }
+  for-one : (r : Refusal) (never : Bool) → step c M .0 .number ≡ number r → Sorted c M never → (h : Handle) × RefusedFor h r c M
+  for-one r never e s = (s .handle, record { refused = refused-so r e; not-live = s .first })
 
   -- the handle that a call is refused for is sorted so
   same-handle : (h : Handle) (never : Bool) → first-not-live M (handles (asked c (M .state) .operands)) ≡ some h → Sorted c M never → never-issued (M .state) h ≡ never
@@ -225,8 +223,8 @@ live-until h (d ∷ later) M e a =
 
 pub sorting : Sorting
 sorting = record {
-  three-for-one = λ c M e. for-one c M Stale false (λ z. omega arith) e (stepped c M .three e);
-  eleven-for-one = λ c M e. for-one c M NeverIssued true (λ z. omega arith) e (stepped c M .eleven e);
+  three-for-one = λ c M e. for-one c M Stale false e (stepped c M .three e);
+  eleven-for-one = λ c M e. for-one c M NeverIssued true e (stepped c M .eleven e);
   two-is-three = λ h M. counted-so h M 2 false (λ e. omega arith) is-two;
   three-is-eleven = λ h M. counted-so h M 3 true (λ e. omega arith) is-three;
   never-eleven = λ c M h later d e f. given-out c M h later e (never-so d (after later (step c M .1)) h f);

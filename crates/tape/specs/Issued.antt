@@ -29,11 +29,6 @@ pub record RefusedFor {N : Numbers} (h : Handle) (r : Refusal) (c : Call N) (M :
   pub refused : step c M ≡ (refused r, M)
   pub not-live : first-not-live M (handles (asked c (M .state) .operands)) ≡ some h
 
--- the call is refused so for some handle
-pub record ForOne {N : Numbers} (r : Refusal) (c : Call N) (M : Machine N) : Type 0 where
-  pub handle : Handle
-  pub refused-for : RefusedFor handle r c M
-
 -- how often a serial is among these
 abbrev pub how-often : ℕ → List ℕ → ℕ
 how-often k [] = 0
@@ -64,8 +59,10 @@ leaves-nodes (list bytes) = true
 -- Proved in proofs/Issued.antt
 pub record Sorting : Type 1 where
   -- a call that is refused 3 or 11 is refused so for one handle
-  pub three-for-one : {N : Numbers} (c : Call N) (M : Machine N) → step c M .0 .number ≡ 3 → ForOne Stale c M
-  pub eleven-for-one : {N : Numbers} (c : Call N) (M : Machine N) → step c M .0 .number ≡ 11 → ForOne NeverIssued c M
+  pub three-for-one : {N : Numbers} (c : Call N) (M : Machine N) → step c M .0 .number ≡ 3
+      → (h : Handle) × RefusedFor h Stale c M
+  pub eleven-for-one : {N : Numbers} (c : Call N) (M : Machine N) → step c M .0 .number ≡ 11
+      → (h : Handle) × RefusedFor h NeverIssued c M
   -- is_live counts 2 or 3 for a handle that is refused 3 or 11 where it is read
   pub two-is-three : {N : Numbers} (h : Handle) (M : Machine N) → step (is-live (node h)) M .0 .count ≡ 2
       → RefusedFor h Stale (value-of (node h)) M
