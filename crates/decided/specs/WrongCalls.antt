@@ -10,7 +10,7 @@ use lib.Ieee.{Float, nan, binary64, div, neg as minus}
 use lib.ListN.{set, take, replicate}
 use Rattle.tape.specs.Numbers.{floats}
 use Rattle.tape.specs.Machine.{Arrays, Machine, arrays, machine, new-tape, with-walk, state, span, walk-left}
-use Rattle.tape.specs.Handles.{Operand, plain, node, looked-up, usable-as}
+use Rattle.tape.specs.Handles.{Operand, plain, node, looked-up, counted-as, usable-as}
 use Rattle.tape.specs.Operations.{UNKNOWN, ADD, SUBTRACT, MULTIPLY, DIVIDE, MAX, MIN, NEGATE, SUPPLIED-ONE, SUPPLIED-TWO, SQRT}
 use Rattle.tape.specs.Walk.{Edge}
 use Rattle.tape.specs.Listing.{listing}
@@ -44,13 +44,8 @@ use Rattle.decided.specs.Tried.{Tried, tried, ruled-out, bits}
 abbrev pub a-number : ℕ → ℕ → Tried
 a-number = tried (λ k. k ∷ [])
 
-abbrev pub found : Lookup → ℕ
-found lookup.Live = 1
-found lookup.Stale = 2
-found lookup.NeverIssued = 3
-
 abbrev pub a-lookup : Lookup → Lookup → Tried
-a-lookup = tried (λ l. found l ∷ [])
+a-lookup = tried (λ l. counted-as l ∷ [])
 
 abbrev pub usable-shown : Usable → List ℕ
 usable-shown usable.Live = 0 ∷ []
@@ -133,8 +128,8 @@ x1 = node-at 1
 abbrev pub stale : Operand floats
 stale = node (handle 1 1)
 
-abbrev pub never-issued : Operand floats
-never-issued = node (handle 1 9)
+abbrev pub made-up : Operand floats
+made-up = node (handle 1 9)
 
 abbrev pub to : ℕ → Float → Edge floats
 to i p = record { child = i; weight = p }
@@ -185,9 +180,9 @@ number-tried = a-number (number Full) (number SerialsSpent)
     ∷ a-number (number NeverIssued) (number Stale)
     ∷ a-number (number Misshapen) 0 ∷ []
 
--- lookup: the serial of another index compared; a handle with serial 0 live where 0 is stored, or stale; the next
--- serial stale; a serial that was given out never issued at an index past the length; a live handle never issued whose
--- serial is not below the next
+-- lookup: live, by the serial of another index; live, with serial 0 where 0 is stored; stale, with serial 0; stale, with
+-- the next serial; never issued, past the length with a serial that was given out; never issued, where the handle is
+-- live
 abbrev pub lookup-tried : List Tried
 lookup-tried = a-lookup (looked-up (state 2 0 true 10) (7 ∷ 9 ∷ []) (handle 1 7)) lookup.Live
     ∷ a-lookup (looked-up (state 1 0 true 10) (0 ∷ []) (handle 0 0)) lookup.Live
@@ -277,8 +272,8 @@ abbrev pub record-tried : List Tried
 record-tried =
     a-step (step (binary NEGATE x0 unused) two) (with-adjoint (minus (float 3)) (recording (minus (float 3)) (to 0 (minus one) ∷ [])))
     ∷ a-step (step (binary NEGATE x0 stale) two) (refused Stale, two)
-    ∷ a-step (step (binary ADD stale never-issued) two) (refused NeverIssued, two)
-    ∷ a-step (step (binary ADD never-issued stale) two) (refused Stale, two)
+    ∷ a-step (step (binary ADD stale made-up) two) (refused NeverIssued, two)
+    ∷ a-step (step (binary ADD made-up stale) two) (refused Stale, two)
     ∷ a-step (step (binary UNKNOWN x0 x1) two) (recording nan [])
     ∷ a-step (step (binary NEGATE x0 unused) full) (recorded (minus (float 3)) (issued (full .state)), written full (minus (float 3)) (to 0 (minus one) ∷ []))
     ∷ a-step (step (expr.new-leaf one) spent) (recorded one (issued (spent .state)), written spent one []) ∷ []
@@ -360,7 +355,7 @@ sqrt-tried =
 abbrev pub value-tried : List Tried
 value-tried = a-step (step (value-of (plain (float 5))) (marked 2)) (refused Detached, marked 2)
     ∷ a-step (step (value-of stale) (marked 2)) (read-value (float 2), marked 2)
-    ∷ a-step (step (value-of never-issued) (marked 2)) (refused Stale, marked 2) ∷ []
+    ∷ a-step (step (value-of made-up) (marked 2)) (refused Stale, marked 2) ∷ []
 
 -- adjoint: a handle that is not live refused 4; 11 for a stale one; 0.0 for a number, which is refused
 abbrev pub adjoint-tried : List Tried
@@ -374,7 +369,7 @@ abbrev pub is-live-tried : List Tried
 is-live-tried = a-step (step (is-live stale) (marked 2)) (refused Stale, marked 2)
     ∷ a-step (step (is-live (plain (float 5))) (marked 2)) (counted 1, marked 2)
     ∷ a-step (step (is-live stale) (marked 2)) (counted 0, marked 2)
-    ∷ a-step (step (is-live never-issued) (marked 2)) (counted 2, marked 2) ∷ []
+    ∷ a-step (step (is-live made-up) (marked 2)) (counted 2, marked 2) ∷ []
 
 -- reset_adjoints: adjoints past the length cleared; -0.0 for +0.0
 abbrev pub reset-adjoints-tried : List Tried
@@ -387,7 +382,7 @@ reset-adjoints-tried = a-step (step clear (marked 2)) (done, with-adjoints (mark
 abbrev pub backward-tried : List Tried
 backward-tried = a-step (step (pass (backward (node-at 2))) (marked 2)) (passed (marked 2) 4 (8 ∷ 9 ∷ 2 ∷ 1 ∷ 7 ∷ []))
     ∷ a-step (step (pass (backward (node-at 2))) (marked 2)) (passed (marked 2) 2 (2 ∷ 3 ∷ 1 ∷ 0 ∷ 7 ∷ []))
-    ∷ a-step (step (pass (backward never-issued)) (marked 2)) (refused Stale, marked 2) ∷ []
+    ∷ a-step (step (pass (backward made-up)) (marked 2)) (refused Stale, marked 2) ∷ []
 
 -- backward_to_mark: 1.0 added to the root's adjoint; a walk that begins at the root
 abbrev pub backward-to-mark-tried : List Tried

@@ -1,7 +1,7 @@
 -- The statements of specs/, each with its proof.
 use Rattle.tape.specs.Answers.{OneToOne}
 use Rattle.tape.specs.Kept.{StaleHandles, Revived, Serials, Recording}
-use Rattle.tape.specs.Issued.{Sorting, Unanswered}
+use Rattle.tape.specs.Issued.{Sorting, TakenUpLater}
 use Rattle.tape.specs.Passes.{EachEdge, OnlyAdjoints, EmptyRange, BothRanges, NeverUnsound}
 use Rattle.tape.specs.Slices.{Turns, AnyCutting, GoesOn, AllOneSize, EachSlice}
 use Rattle.tape.specs.Rows.{EveryRow, EveryChoice, EveryRoot, EverySlice, EveryHandle, EveryText}
@@ -33,8 +33,8 @@ serials = counted.serials-kept
 sorting : Sorting
 sorting = sorted.sorting
 
-unanswered : Unanswered
-unanswered = sorted.unanswered
+taken-up-later : TakenUpLater
+taken-up-later = sorted.taken-up-later
 
 recording : Recording
 recording = recorded.recording

@@ -144,6 +144,7 @@ every-handle = (
   (refl, (refl, tt)),
   (refl, (refl, tt)),
   (refl, (refl, tt)),
+  (refl, (refl, tt)),
   (refl, tt),
 )
 

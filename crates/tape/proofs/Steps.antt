@@ -161,8 +161,8 @@ pub record Gives {N : Numbers} (P : Refusal → Type 0) (q : Asked N) (M : Machi
   pub out-of-turn : in-turn (M .state .walk) (q .caller) ≡ false → P OutOfTurn
   pub unfit : P UnfitSlice
   pub unknown : P UnknownOperation
-  pub stale : (h : Handle) → first-not-live M (handles (q .operands)) ≡ some h → never-issued (M .state) h ≡ false → P Stale
-  pub never-issued : (h : Handle) → first-not-live M (handles (q .operands)) ≡ some h → never-issued (M .state) h ≡ true → P NeverIssued
+  pub stale : let-in (q .caller) M ≡ none → (h : Handle) → first-not-live M (handles (q .operands)) ≡ some h → never-issued (M .state) h ≡ false → P Stale
+  pub never-issued : let-in (q .caller) M ≡ none → (h : Handle) → first-not-live M (handles (q .operands)) ≡ some h → never-issued (M .state) h ≡ true → P NeverIssued
   pub detached : P Detached
   pub full : P Full
   pub spent : P SerialsSpent
@@ -177,7 +177,7 @@ by-table P c M g =
       λ in-so. (
         when-gives P (unknown (q .operation)) UnknownOperation (λ _. g .unknown),
         λ _. (
-          amiss-gives P M (handles (q .operands)) (λ h e. by-test P (never-issued (M .state) h) (g .never-issued h e) (g .stale h e)),
+          amiss-gives P M (handles (q .operands)) (λ h e. by-test P (never-issued (M .state) h) (g .never-issued in-so h e) (g .stale in-so h e)),
           λ all-live. (
             when-gives P (q .on-tape && any-plain (q .operands)) Detached (λ _. g .detached),
             λ _. (

@@ -50,7 +50,7 @@ read-value v = answer 0 v none 0 0
 abbrev pub detached : {N : Numbers} → N .Number → Answer N
 detached v = read-value v
 
--- edges visited, bytes written, or what is_live finds, as a number (`liveness`)
+-- edges visited, bytes written, or what is_live finds (`liveness` in Handles.antt)
 abbrev pub counted : {N : Numbers} → ℕ → Answer N
 counted {N} n = answer 0 (N .nought) none n 0
 

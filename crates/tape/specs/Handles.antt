@@ -21,7 +21,7 @@ abbrev pub lives : ℕ → List ℕ → Handle → Bool
 lives length serials h =
     all (ltb (h .index) length ∷ not (eqb (h .serial) 0) ∷ eqb (getD serials (h .index) 0) (h .serial) ∷ [])
 
--- no node was given its serial: it is 0, or not below the next one
+-- its serial was not given out so far: it is 0, or not below the next one
 abbrev pub never-issued : Tape → Handle → Bool
 never-issued t h = eqb (h .serial) 0 || not (ltb (h .serial) (t .next))
 
@@ -59,11 +59,16 @@ abbrev pub gradient : {N : Numbers} → Machine N → Operand N → N .Number
 gradient {N} M (plain x) = N .nought
 gradient {N} M (node h) = getD (M .lent .adjoint) (h .index) (N .blank)
 
--- what is_live finds, as a number: 0 for a plain number, 1 for a live handle, 2 for a stale one, 3 for one that was
--- never issued
+-- a lookup's answer as a count
+abbrev pub counted-as : Lookup → ℕ
+counted-as lookup.Live = 1
+counted-as lookup.Stale = 2
+counted-as lookup.NeverIssued = 3
+
+-- what is_live counts: what the lookup answers, and 0 for a plain number
 abbrev pub liveness : {N : Numbers} → Machine N → Operand N → ℕ
 liveness M (plain x) = 0
-liveness M (node h) = cond (live M h) 1 (cond (never-issued (M .state) h) 3 2)
+liveness M (node h) = counted-as (looked-up (M .state) (M .lent .serial) h)
 
 -- the handles among some operands
 abbrev pub handles : {N : Numbers} → List (Operand N) → List Handle

@@ -59,8 +59,8 @@ spent A = machine (state 2 0 true last-serial) A
 abbrev pub stale : Operand floats
 stale = node (handle 1 1)
 
-abbrev pub never-issued : Operand floats
-never-issued = node (handle 1 last-serial)
+abbrev pub made-up : Operand floats
+made-up = node (handle 1 last-serial)
 
 abbrev pub a-number : Operand floats
 a-number = plain (float 5)
@@ -80,6 +80,8 @@ pub record Order : Type 0 where
   pub one-and-two : Refused (unknown (node-at 0)) (misshapen roomy) Misshapen
       × Refused (unknown (node-at 0)) (on roomy) UnknownOperation
   pub one-and-three : Refused (value-of stale) (misshapen roomy) Misshapen × Refused (value-of stale) (on roomy) Stale
+  pub one-and-eleven : Refused (value-of made-up) (misshapen roomy) Misshapen
+      × Refused (value-of made-up) (on roomy) NeverIssued
   pub one-and-four : Refused (adjoint-of a-number) (misshapen roomy) Misshapen
       × Refused (adjoint-of a-number) (on roomy) Detached
   pub one-and-five : Refused (leaf (float 5)) (misshapen full) Misshapen × Refused (leaf (float 5)) (on full) Full
@@ -90,15 +92,28 @@ pub record Order : Type 0 where
   pub one-and-eight : Refused (list 0) (misshapen roomy) Misshapen × Refused (list 0) (on roomy) ListingTooLong
   pub two-and-three : Refused (unknown stale) (on roomy) UnknownOperation
       × Refused (binary ADD stale stale) (on roomy) Stale
+  pub two-and-eleven : Refused (unknown made-up) (on roomy) UnknownOperation
+      × Refused (binary ADD made-up made-up) (on roomy) NeverIssued
+  -- the first operand that is not live decides, left before right
+  pub three-and-eleven : Refused (binary ADD stale made-up) (on roomy) Stale
+      × Refused (binary ADD (node-at 0) made-up) (on roomy) NeverIssued
+  pub eleven-and-three : Refused (binary ADD made-up stale) (on roomy) NeverIssued
+      × Refused (binary ADD (node-at 0) stale) (on roomy) Stale
   pub two-and-five : Refused (unknown (node-at 0)) (on full) UnknownOperation
       × Refused (binary ADD (node-at 0) (node-at 0)) (on full) Full
   pub two-and-six : Refused (unknown (node-at 0)) (spent roomy) UnknownOperation
       × Refused (binary ADD (node-at 0) (node-at 0)) (spent roomy) SerialsSpent
   pub three-and-five : Refused (binary NEGATE stale stale) (on full) Stale
       × Refused (binary NEGATE (node-at 0) stale) (on full) Full
+  pub eleven-and-five : Refused (binary NEGATE made-up stale) (on full) NeverIssued
+      × Refused (binary NEGATE (node-at 0) stale) (on full) Full
   pub three-and-six : Refused (binary NEGATE stale stale) (spent roomy) Stale
       × Refused (binary NEGATE (node-at 0) stale) (spent roomy) SerialsSpent
+  pub eleven-and-six : Refused (binary NEGATE made-up stale) (spent roomy) NeverIssued
+      × Refused (binary NEGATE (node-at 0) stale) (spent roomy) SerialsSpent
   pub three-and-seven : Refused (pass (backward stale)) (on unsound) Stale
+      × Refused (pass (backward (node-at 1))) (on unsound) UnsoundEdge
+  pub eleven-and-seven : Refused (pass (backward made-up)) (on unsound) NeverIssued
       × Refused (pass (backward (node-at 1))) (on unsound) UnsoundEdge
   pub four-and-seven : Refused (pass (backward-to-mark a-number)) (on unsound) Detached
       × Refused (pass (backward-to-mark (node-at 1))) (on unsound) UnsoundEdge
@@ -111,6 +126,8 @@ pub record Order : Type 0 where
       × Refused (unknown (node-at 0)) (on roomy) UnknownOperation
   pub twelve-and-three : Refused (value-of stale) (walking (on roomy)) OutOfTurn
       × Refused (value-of stale) (on roomy) Stale
+  pub twelve-and-eleven : Refused (value-of made-up) (walking (on roomy)) OutOfTurn
+      × Refused (value-of made-up) (on roomy) NeverIssued
   pub twelve-and-four : Refused (open-pass (backward a-number)) (walking (on roomy)) OutOfTurn
       × Refused (open-pass (backward a-number)) (on roomy) Detached
   pub twelve-and-five : Refused (leaf (float 5)) (walking (on full)) OutOfTurn × Refused (leaf (float 5)) (on full) Full
@@ -118,22 +135,5 @@ pub record Order : Type 0 where
       × Refused (leaf (float 5)) (spent roomy) SerialsSpent
   pub twelve-and-seven : Refused (open-pass (backward (node-at 1))) (walking (on unsound)) OutOfTurn
       × Refused (open-pass (backward (node-at 1))) (on unsound) UnsoundEdge
-  pub one-and-eleven : Refused (value-of never-issued) (misshapen roomy) Misshapen
-      × Refused (value-of never-issued) (on roomy) NeverIssued
-  pub twelve-and-eleven : Refused (value-of never-issued) (walking (on roomy)) OutOfTurn
-      × Refused (value-of never-issued) (on roomy) NeverIssued
-  pub two-and-eleven : Refused (unknown never-issued) (on roomy) UnknownOperation
-      × Refused (binary ADD never-issued never-issued) (on roomy) NeverIssued
-  -- the first operand that is not live decides, be it the one or the other
-  pub three-and-eleven : Refused (binary ADD stale never-issued) (on roomy) Stale
-      × Refused (binary ADD (node-at 0) never-issued) (on roomy) NeverIssued
-  pub eleven-and-three : Refused (binary ADD never-issued stale) (on roomy) NeverIssued
-      × Refused (binary ADD (node-at 0) stale) (on roomy) Stale
-  pub eleven-and-five : Refused (binary NEGATE never-issued stale) (on full) NeverIssued
-      × Refused (binary NEGATE (node-at 0) stale) (on full) Full
-  pub eleven-and-six : Refused (binary NEGATE never-issued stale) (spent roomy) NeverIssued
-      × Refused (binary NEGATE (node-at 0) stale) (spent roomy) SerialsSpent
-  pub eleven-and-seven : Refused (pass (backward never-issued)) (on unsound) NeverIssued
-      × Refused (pass (backward (node-at 1))) (on unsound) UnsoundEdge
   pub thirteen-and-seven : Refused (slice 0) (walking (on unsound)) UnfitSlice
       × Refused (slice 1) (walking (on unsound)) UnsoundEdge

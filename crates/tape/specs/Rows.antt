@@ -501,37 +501,57 @@ EverySlice =
 
 -- ---- handles that are not live
 
--- what a handle meets that is read, is asked about, is a root, and is an operand
+-- calls that read a handle, ask about it, and take it as a root and as both operands
 abbrev pub tries : Handle → List (Call floats)
 tries h =
     let x = node h in
     value-of x ∷ adjoint-of x ∷ is-live x ∷ pass (backward x) ∷ open-pass (backward-to-mark x) ∷ plus x x ∷ []
 
--- as which it is refused, and what is_live counts for it
+-- what they answer: is_live this count, and each of the others this refusal
 abbrev pub met : Refusal → ℕ → List (Answer floats)
 met r k = refused r ∷ refused r ∷ counted k ∷ refused r ∷ refused r ∷ refused r ∷ []
 
--- on the four nodes, which have serials 1 to 4, a handle that is refused so
-abbrev pub refused-on-four : Refusal → ℕ → Handle → Row
-refused-on-four r k h = on-four (tries h) (met r k) (four-adjoints ∷ [])
+-- on four leaves of serials 1 to 4, with room for a fifth
+abbrev pub on-leaves : List (Call floats) → List (Answer floats) → List Float → Row
+on-leaves calls answers after = record {
+  before =
+      machine (state 4 0 true 5) (arrays (replicate 5 (float 7)) (replicate 5 (float 7)) (1 ∷ 2 ∷ 3 ∷ 4 ∷ 7 ∷ []) (0 ∷ 0 ∷ 0 ∷ 0 ∷ 7 ∷ []) (replicate 10 7) (replicate 10 (float 7)));
+  calls = calls;
+  answers = answers;
+  sights = adjoints after ∷ [];
+}
 
--- serial 0, the next serial and the largest were given to no node, whatever the index
+-- there, a handle that is refused so
+abbrev pub refused-as : Refusal → ℕ → Handle → Row
+refused-as r k h = on-leaves (tries h) (met r k) (replicate 5 (float 7))
+
+-- serial 0, the next serial and the largest were given to no node so far, whatever the index
 abbrev pub never-given : Handle → Row
-never-given h = refused-on-four NeverIssued 3 h
+never-given h = refused-as NeverIssued 3 h
 
--- serials 1 to 4 were, but to another node than this index says, which may be past the length: garbage, refused 3
+-- serials 1 to 4 were given out, and not to a node at this index, which may be past the length: garbage, refused 3
 abbrev pub given-elsewhere : Handle → Row
-given-elsewhere h = refused-on-four Stale 2 h
+given-elsewhere h = refused-as Stale 2 h
 
 -- the first operand that is not live decides, left before right; a right operand that is not used does not
 abbrev pub left-decides : Row
 left-decides =
     let old = node (handle 4 4) in
     let made-up = node (handle 1 5) in
-    on-four
-    (plus old made-up ∷ plus made-up old ∷ plus (node-at 0) made-up ∷ plus (node-at 0) old ∷ plus (plain (float 5)) made-up ∷ binary SQRT old made-up ∷ binary SQRT made-up old ∷ [])
-    (refused Stale ∷ refused NeverIssued ∷ refused NeverIssued ∷ refused Stale ∷ refused NeverIssued ∷ refused Stale ∷ refused NeverIssued ∷ [])
-    (four-adjoints ∷ [])
+    on-leaves
+    (plus old made-up ∷ plus made-up old ∷ plus (node-at 0) made-up ∷ plus (node-at 0) old ∷ plus (plain (float 5)) made-up ∷ binary LEAF old made-up ∷ binary LEAF (plain (float 8)) made-up ∷ [])
+    (refused Stale ∷ refused NeverIssued ∷ refused NeverIssued ∷ refused Stale ∷ refused NeverIssued ∷ refused Stale ∷ recorded (float 8) (first 4) ∷ [])
+    (replicate 4 (float 7) ++ (float 0 ∷ []))
+
+-- 11 is for serials that were not given out so far: a made-up handle can come to be that of the next node, or stale
+abbrev pub given-later : Row
+given-later =
+    let next = node (handle 4 5) in
+    let elsewhere = node (handle 0 5) in
+    on-leaves
+    (value-of next ∷ value-of elsewhere ∷ leaf (float 8) ∷ value-of next ∷ value-of elsewhere ∷ [])
+    (refused NeverIssued ∷ refused NeverIssued ∷ recorded (float 8) (first 4) ∷ read-value (float 8) ∷ refused Stale ∷ [])
+    (replicate 4 (float 7) ++ (float 0 ∷ []))
 
 -- a tape that no calls left: a handle whose serial is not below the next one is live, if it is stored at its index
 abbrev pub live-first : Row
@@ -556,6 +576,7 @@ EveryHandle =
     × Holds (given-elsewhere (handle 4 4))
     × Holds (given-elsewhere (handle 9 1))
     × Holds left-decides
+    × Holds given-later
     × Holds live-first
 
 -- the header's numbers, where a listing of the rows has too few digits to tell. Proved in proofs/Rows.antt

@@ -2,7 +2,6 @@
 use crate::errors::Refusal;
 use crate::tape::Tape;
 ghost use mathlib.Core.Path.{_≡_};
-ghost use mathlib.Core.Bool.{cond};
 ghost use Rattle.tape.specs.Handles.{lives, never-issued, looked-up, usable-as};
 
 // How many nodes a tape has room for, so that a child's index fits 16 bits.
@@ -42,11 +41,21 @@ impl Handle {
         serial: 0,
     };
 
-    // Whether the handle is live on a tape with these serials and, if it is not, whether its serial was given out.
+    // Whether the handle is live on a tape with these serials and, if it is not, whether its serial was given out so
+    // far.
     pub fn lookup(self, tape: Tape, serial: &[u64]) -> Lookup
         ensures { λ x. ⌜ x ≡ looked-up tape (now (serial .entry)) self ⌝ }
     {
-        Lookup::of(self.lives(tape.length, serial), self.never_issued(tape))
+        let lives = self.lives(tape.length, serial);
+        let unissued = self.never_issued(tape);
+        // Only what is not live is sorted by its serial.
+        if lives {
+            return Lookup::Live;
+        }
+        if unissued {
+            return Lookup::NeverIssued;
+        }
+        Lookup::Stale
     }
 
     // The same for a call that needs a live one: what is not live is refused, in this one place.
@@ -77,7 +86,7 @@ impl Handle {
         stored == self.serial
     }
 
-    // Whether no node was given its serial, now or before.
+    // Whether no node was given its serial so far.
     fn never_issued(self, tape: Tape) -> bool
         ensures { λ x. ⌜ x ≡ never-issued tape self ⌝ }
     {
@@ -88,20 +97,5 @@ impl Handle {
             return false;
         }
         true
-    }
-}
-
-impl Lookup {
-    // Liveness is asked first: only what is not live is sorted by its serial.
-    fn of(lives: bool, unissued: bool) -> Lookup
-        ensures { λ x. ⌜ x ≡ cond lives Lookup.Live (cond unissued Lookup.NeverIssued Lookup.Stale) ⌝ }
-    {
-        if lives {
-            return Lookup::Live;
-        }
-        if unissued {
-            return Lookup::NeverIssued;
-        }
-        Lookup::Stale
     }
 }

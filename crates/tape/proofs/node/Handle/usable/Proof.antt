@@ -1,7 +1,7 @@
 -- The lookup's case.
 use borrow.Author.Needs.{needs}
 use denote.Ref.{now}
-use Rattle.tape.proofs.Sorting.{sorted}
+use Rattle.tape.proofs.Usable.{sorted}
 use Rattle.tape.proofs.node.Handle.usable.Statement.{statement}
 use Rattle.tape.proofs.node.Handle.usable.Tie as tie
 
