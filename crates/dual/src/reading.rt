@@ -24,7 +24,7 @@ pub enum Read {
     Refused(Refusal),
 }
 
-// What is_live finds: a handle that is live, one that is stale, one that was never issued, or a number; or the refusal.
+// What is_live finds an operand to be; or the refusal.
 pub enum Liveness {
     Live,
     Stale,
@@ -83,7 +83,8 @@ pub fn adjoint(
     }
 }
 
-// Whether a handle is live, stale or was never issued, or that it is a number. Refuses 1, and 12 while a walk is open.
+// Whether an operand is a live handle, a stale one, one that was never issued, or a number. Refuses 1, and 12 while a
+// walk is open.
 pub fn is_live(
     tape: Tape,
     value: &[f64],
