@@ -2,6 +2,7 @@
 // document 01's edges that is not in the proved table. Then a pass in slices on a full tape, and the refusals that no
 // other program meets.
 mod filling;
+mod handles;
 mod powers;
 mod refusals;
 mod report;
@@ -23,6 +24,7 @@ fn main() {
     at(MOST_NODES);
     at(TOO_MANY);
     refusals::run();
+    handles::run();
     turns::run();
 }
 
