@@ -57,22 +57,12 @@ const OF_LARGEST: Handle = Handle {
 
 pub(crate) fn run() {
     let tape = with_next(NEXT, true);
-    let low = with_next(LOW_NEXT, true);
     operands(tape);
-    adding(b"next serial 3, live + live", low, LIVE, LIVE);
     roots(tape);
-    passing(
-        b"next serial 3, backward, live root",
-        low,
-        Pass::Backward(Operand::Node(LIVE)),
-    );
     reads(tape);
     issued(tape);
     never_issued(tape);
-    looking_up(low, 1, 4);
-    looking_up(low, 0, 4);
-    let number = liveness(tape, Operand::Number(2.5));
-    report::liveness(N, b"is live, 2.5", number);
+    low_next();
 }
 
 // The first that is not live decides.
@@ -89,13 +79,12 @@ fn operands(tape: Tape) {
 fn roots(tape: Tape) {
     let live = Operand::Node(LIVE);
     let stale = Operand::Node(STALE);
-    let next = Operand::Node(OF_NEXT);
     passing(b"backward, live root", tape, Pass::Backward(live));
     passing(b"backward, stale root", tape, Pass::Backward(stale));
     passing(
         b"backward, root of the next serial",
         tape,
-        Pass::Backward(next),
+        Pass::Backward(Operand::Node(OF_NEXT)),
     );
     passing(
         b"backward to mark, root past the length",
@@ -110,9 +99,9 @@ fn roots(tape: Tape) {
     opening(b"open backward, live root", tape, Pass::Backward(live));
     opening(b"open backward, stale root", tape, Pass::Backward(stale));
     opening(
-        b"open backward, root of the next serial",
+        b"open backward, root of the largest serial",
         tape,
-        Pass::Backward(next),
+        Pass::Backward(Operand::Node(OF_LARGEST)),
     );
 }
 
@@ -125,6 +114,8 @@ fn reads(tape: Tape) {
         tape,
         OF_NEXT,
     );
+    let number = liveness(tape, Operand::Number(2.5));
+    report::liveness(N, b"is live, 2.5", number);
 }
 
 fn issued(tape: Tape) {
@@ -148,6 +139,15 @@ fn never_issued(tape: Tape) {
     looking_up(tape, 0, u64::MAX);
     looking_up(tape, 2, u64::MAX);
     looking_up(tape, N, u64::MAX);
+}
+
+fn low_next() {
+    let tape = with_next(LOW_NEXT, true);
+    let pass = Pass::Backward(Operand::Node(LIVE));
+    adding(b"next serial 3, live + live", tape, LIVE, LIVE);
+    passing(b"next serial 3, backward, live root", tape, pass);
+    looking_up(tape, 1, 4);
+    looking_up(tape, 0, 4);
 }
 
 fn adding(call: &[u8], tape: Tape, left: Handle, right: Handle) {
