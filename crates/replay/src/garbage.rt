@@ -4,6 +4,7 @@ use crate::calls::NEVER_ISSUED;
 use crate::calls::REFUSED;
 use crate::calls::STALE_HANDLE;
 use crate::calls::Said;
+use crate::carry_out::Heard;
 use crate::carry_out::Task;
 use crate::carry_out::carry_out;
 use crate::sequences::CAPACITY;
@@ -31,6 +32,12 @@ struct Spot {
     stale: Handle,
     left: bool,
     right: bool,
+}
+
+// Digests of all that is lent for values and adjoints, so that what is written behind the last node is seen.
+struct Digests {
+    values: u64,
+    adjoints: u64,
 }
 
 // What a call answered, and whether it left the tape as it was.
@@ -199,7 +206,6 @@ fn one_handle(
     )
 }
 
-// The digests are of the arrays as they are lent, so that what is written behind the last node is seen.
 fn make(
     tape: Tape,
     value: &mut [f64],
@@ -210,15 +216,26 @@ fn make(
     partial: &mut [f64],
     task: Task,
 ) -> Made {
-    let values = digest(value, CAPACITY);
-    let adjoints = digest(adjoint, CAPACITY);
+    let before = digests_of(value, adjoint);
     let heard = carry_out(tape, value, adjoint, serial, count, child, partial, task);
+    let after = digests_of(value, adjoint);
+    made_of(tape, before, heard, after)
+}
+
+fn digests_of(value: &[f64], adjoint: &[f64]) -> Digests {
+    Digests {
+        values: digest(value, CAPACITY),
+        adjoints: digest(adjoint, CAPACITY),
+    }
+}
+
+fn made_of(tape: Tape, before: Digests, heard: Heard, after: Digests) -> Made {
     let answer = heard.answer;
     Made {
         answer,
         same_state: is_state(heard.tape, tape),
-        same_values: digest(value, CAPACITY) == values,
-        same_adjoints: digest(adjoint, CAPACITY) == adjoints,
+        same_values: after.values == before.values,
+        same_adjoints: after.adjoints == before.adjoints,
     }
 }
 
