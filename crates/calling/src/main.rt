@@ -1,4 +1,5 @@
-// Two leaves, their product, a pass back, an adjoint; then a rewind, and the product is refused (docs/CALLING.md).
+// Two leaves, their product, a pass back, an adjoint; then a rewind, and the product is refused, as is a handle that no
+// call answered (docs/CALLING.md).
 use dual::Passed;
 use dual::Read;
 use dual::passes::backward;
@@ -58,7 +59,23 @@ fn main() {
     passed(backward(tape, value, adjoint, serial, count, child, partial, root));
     read(dual::reading::adjoint(tape, value, adjoint, serial, count, child, partial, left));
     let tape = moved(tape.rewind_to_init());
-    read(dual::reading::adjoint(tape, value, adjoint, serial, count, child, partial, root));
+    read_in_vain(tape, value, adjoint, serial, count, child, partial, root);
+}
+
+// A handle whose node was dropped, and one that stands where no call has answered one yet.
+fn read_in_vain(
+    tape: Tape,
+    value: &[f64],
+    adjoint: &[f64],
+    serial: &[u64],
+    count: &[u8],
+    child: &[u16],
+    partial: &[f64],
+    dropped: Operand,
+) {
+    read(dual::reading::adjoint(tape, value, adjoint, serial, count, child, partial, dropped));
+    let none = Operand::Node(Handle::NEVER_LIVE);
+    read(dual::reading::adjoint(tape, value, adjoint, serial, count, child, partial, none));
 }
 
 // The state is handed back at a refusal too, as it was.
@@ -99,20 +116,30 @@ fn passed(answer: Passed) {
 fn read(answer: Read) {
     match answer {
         Read::Number(x) => {
-            io::write_all(STDOUT_FILENO, b"adjoint: ");
+            text(b"adjoint: ");
             io::print_hex(STDOUT_FILENO, bits_of(x), 16);
-            io::write_all(STDOUT_FILENO, b"\n");
+            text(b"\n");
         }
         Read::Refused(refusal) => refused(refusal),
     }
 }
 
 fn refused(refusal: Refusal) {
-    number(b"refused: ", refusal.number() as u64);
+    text(b"refused: ");
+    io::print_decimal(STDOUT_FILENO, refusal.number() as u64);
+    match refusal {
+        Refusal::Stale => text(b" (stale handle)\n"),
+        Refusal::NeverIssued => text(b" (handle never issued)\n"),
+        _ => text(b"\n"),
+    }
 }
 
 fn number(name: &[u8], x: u64) {
-    io::write_all(STDOUT_FILENO, name);
+    text(name);
     io::print_decimal(STDOUT_FILENO, x);
-    io::write_all(STDOUT_FILENO, b"\n");
+    text(b"\n");
+}
+
+fn text(bytes: &[u8]) {
+    io::write_all(STDOUT_FILENO, bytes);
 }

@@ -1,7 +1,8 @@
 // Runs tapes of capacity 0, 1, 65,535 and 65,536 on real arrays and writes down what the calls answer: the row of
-// document 01's edges that is not in the proved table. Then a pass in slices on a full tape, and the refusals that no
-// other program meets.
+// document 01's edges that is not in the proved table. Then a pass in slices on a full tape, the refusals that no other
+// program meets, and handles that are live, stale or were never issued.
 mod filling;
+mod handles;
 mod powers;
 mod refusals;
 mod report;
@@ -23,6 +24,7 @@ fn main() {
     at(MOST_NODES);
     at(TOO_MANY);
     refusals::run();
+    handles::run();
     turns::run();
 }
 

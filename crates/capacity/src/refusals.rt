@@ -52,9 +52,29 @@ pub(crate) fn with_next(next: u64, active: bool) -> Tape {
 
 // Records an operation on plain numbers.
 pub(crate) fn recording(call: &[u8], tape: Tape, op: u8) {
+    let serials = [7u64; N];
+    recording_of(
+        call,
+        tape,
+        serials,
+        op,
+        Operand::Number(2.5),
+        Operand::Number(1.0),
+    );
+}
+
+// Records an operation on arrays with these serials.
+pub(crate) fn recording_of(
+    call: &[u8],
+    tape: Tape,
+    serials: [u64; N],
+    op: u8,
+    left: Operand,
+    right: Operand,
+) {
     let mut value = [3.0; N];
     let mut adjoint = [0.5; N];
-    let mut serial = [7u64; N];
+    let mut serial = serials;
     let mut count = [1u8; N];
     let mut child = [9u16; SLOTS];
     let mut partial = [0.7; SLOTS];
@@ -67,15 +87,15 @@ pub(crate) fn recording(call: &[u8], tape: Tape, op: u8) {
         &mut child,
         &mut partial,
         op,
-        Operand::Number(2.5),
-        Operand::Number(1.0),
+        left,
+        right,
         Supplied::NONE,
     );
     let after = report::recorded(N, call, answer);
     let kept = is_state(after, tape)
         & is_floats(&value, 3.0)
         & is_floats(&adjoint, 0.5)
-        & is_serials(&serial, 7)
+        & is_serials(&serial, &serials)
         & is_counts(&count, 1)
         & is_children(&child, 9)
         & is_partials(&partial, 0.7);
@@ -182,8 +202,8 @@ pub(crate) fn is_float(x: f64, y: f64) -> bool {
     bits_of(x) == bits_of(y)
 }
 
-fn is_serials(x: &[u64; N], y: u64) -> bool {
-    (x[0] == y) & (x[1] == y) & (x[2] == y)
+fn is_serials(x: &[u64; N], y: &[u64; N]) -> bool {
+    (x[0] == y[0]) & (x[1] == y[1]) & (x[2] == y[2])
 }
 
 fn is_counts(x: &[u8; N], y: u8) -> bool {

@@ -85,12 +85,15 @@ pub(crate) fn read(capacity: usize, call: &[u8], answer: Read) {
 
 pub(crate) fn liveness(capacity: usize, call: &[u8], answer: Liveness) {
     begin(capacity, call);
-    match answer {
-        Liveness::Live => text(b" live"),
-        Liveness::NotLive => text(b" not live"),
-        Liveness::Refused(refusal) => reason(refusal),
-    }
-    text(b"\n");
+    found(answer);
+}
+
+// What a handle is on a tape with this next serial.
+pub(crate) fn looked_up(capacity: usize, handle: Handle, next: u64, answer: Liveness) {
+    begin(capacity, b"is live");
+    node(handle);
+    number(b" next=", next);
+    found(answer);
 }
 
 pub(crate) fn listed(capacity: usize, call: &[u8], answer: Listed) {
@@ -159,6 +162,17 @@ fn either(capacity: usize, call: &[u8], holds: bool, yes: &[u8], no: &[u8]) {
     }
 }
 
+fn found(answer: Liveness) {
+    match answer {
+        Liveness::Live => text(b" live"),
+        Liveness::Stale => text(b" stale"),
+        Liveness::NeverIssued => text(b" never issued"),
+        Liveness::Number => text(b" a number"),
+        Liveness::Refused(refusal) => reason(refusal),
+    }
+    text(b"\n");
+}
+
 fn refused(refusal: Refusal, tape: Tape) -> Tape {
     reason(refusal);
     end(tape)
@@ -166,6 +180,16 @@ fn refused(refusal: Refusal, tape: Tape) -> Tape {
 
 fn reason(refusal: Refusal) {
     number(b" refused=", refusal.number() as u64);
+    in_words(refusal);
+}
+
+// Which of the two, where a handle is not live.
+fn in_words(refusal: Refusal) {
+    match refusal {
+        Refusal::Stale => text(b" (stale handle)"),
+        Refusal::NeverIssued => text(b" (handle never issued)"),
+        _ => {}
+    }
 }
 
 fn end(tape: Tape) -> Tape {

@@ -10,7 +10,7 @@ use lib.Ieee.{Float, nan, binary64, div, neg as minus}
 use lib.ListN.{set, take, replicate}
 use Rattle.tape.specs.Numbers.{floats}
 use Rattle.tape.specs.Machine.{Arrays, Machine, arrays, machine, new-tape, with-walk, state, span, walk-left}
-use Rattle.tape.specs.Handles.{Operand, plain, node, looked-up, usable-as}
+use Rattle.tape.specs.Handles.{Operand, plain, node, looked-up, counted-as, usable-as}
 use Rattle.tape.specs.Operations.{UNKNOWN, ADD, SUBTRACT, MULTIPLY, DIVIDE, MAX, MIN, NEGATE, SUPPLIED-ONE, SUPPLIED-TWO, SQRT}
 use Rattle.tape.specs.Walk.{Edge}
 use Rattle.tape.specs.Listing.{listing}
@@ -21,10 +21,10 @@ use Rattle.tape.specs.Refusals.{last-serial}
 use Rattle.tape.specs.Steps.{step}
 use Rattle.tape.specs.Kept.{fresh, after}
 use Rattle.tape.specs.Rows.{float, sevens, handle, node-at, given, leaf, binary, with-open, four-calls}
-use Rattle.tape.specs.declared.errors.Refusal.the-variants.{Misshapen, UnknownOperation, NotLive as Refusal·NotLive, Detached, Full, SerialsSpent, ListingTooLong, OutOfTurn, UnfitSlice}
+use Rattle.tape.specs.declared.errors.Refusal.the-variants.{Misshapen, UnknownOperation, Stale, Detached, Full, SerialsSpent, ListingTooLong, NeverIssued, OutOfTurn, UnfitSlice}
 use Rattle.tape.specs.declared.node.Handle.{Handle}
 use Rattle.tape.specs.declared.node.Lookup.{Lookup}
-use Rattle.tape.specs.declared.node.Lookup.the-variants.{Live, NotLive}
+use Rattle.tape.specs.declared.node.Lookup.the-variants as lookup
 use Rattle.tape.specs.declared.node.Usable.{Usable}
 use Rattle.tape.specs.declared.node.Usable.the-variants as usable
 use Rattle.tape.specs.declared.admission.Admission.{Admission}
@@ -44,12 +44,8 @@ use Rattle.decided.specs.Tried.{Tried, tried, ruled-out, bits}
 abbrev pub a-number : ℕ → ℕ → Tried
 a-number = tried (λ k. k ∷ [])
 
-abbrev pub found : Lookup → ℕ
-found Live = 1
-found NotLive = 0
-
 abbrev pub a-lookup : Lookup → Lookup → Tried
-a-lookup = tried (λ l. found l ∷ [])
+a-lookup = tried (λ l. counted-as l ∷ [])
 
 abbrev pub usable-shown : Usable → List ℕ
 usable-shown usable.Live = 0 ∷ []
@@ -128,9 +124,12 @@ x0 = node-at 0
 abbrev pub x1 : Operand floats
 x1 = node-at 1
 
--- the index of the second leaf with a serial that is not its own
+-- the index of the second leaf with the serial of the first, and with one that no node has
 abbrev pub stale : Operand floats
-stale = node (handle 1 9)
+stale = node (handle 1 1)
+
+abbrev pub made-up : Operand floats
+made-up = node (handle 1 9)
 
 abbrev pub to : ℕ → Float → Edge floats
 to i p = record { child = i; weight = p }
@@ -175,20 +174,30 @@ passed M edges adjoints = (counted edges, with-adjoints M (map float adjoints))
 
 -- ---- wrong answers: tape
 
--- number: two refusals of one number; 0, an answer's number
+-- number: two refusals of one number; 3 for a handle that was never issued; 0, an answer's number
 abbrev pub number-tried : List Tried
 number-tried = a-number (number Full) (number SerialsSpent)
+    ∷ a-number (number NeverIssued) (number Stale)
     ∷ a-number (number Misshapen) 0 ∷ []
 
--- lookup: the serial of another index compared; a handle with serial 0 live where 0 is stored
+-- lookup: live, by the serial of another index; live, with serial 0 where 0 is stored; stale, with serial 0; stale, with
+-- the next serial; never issued, past the length with a serial that was given out; never issued, where the handle is
+-- live
 abbrev pub lookup-tried : List Tried
-lookup-tried = a-lookup (looked-up (state 2 0 true 10) (7 ∷ 9 ∷ []) (handle 1 7)) Live
-    ∷ a-lookup (looked-up (state 1 0 true 10) (0 ∷ []) (handle 0 0)) Live ∷ []
+lookup-tried = a-lookup (looked-up (state 2 0 true 10) (7 ∷ 9 ∷ []) (handle 1 7)) lookup.Live
+    ∷ a-lookup (looked-up (state 1 0 true 10) (0 ∷ []) (handle 0 0)) lookup.Live
+    ∷ a-lookup (looked-up (state 1 0 true 10) (7 ∷ []) (handle 0 0)) lookup.Stale
+    ∷ a-lookup (looked-up (state 1 0 true 10) (7 ∷ []) (handle 0 10)) lookup.Stale
+    ∷ a-lookup (looked-up (state 1 0 true 10) (7 ∷ []) (handle 9 9)) lookup.NeverIssued
+    ∷ a-lookup (looked-up (state 1 0 true 10) (10 ∷ []) (handle 0 10)) lookup.NeverIssued ∷ []
 
--- usable: a handle past the length taken, whose serial is stored there; what is not live refused 4
+-- usable: a handle past the length taken, whose serial is stored there; a stale one refused 4, or 11; one that was
+-- never issued refused 3
 abbrev pub usable-tried : List Tried
 usable-tried = a-usable (usable-as (state 1 0 true 10) (7 ∷ 9 ∷ []) (handle 1 9)) usable.Live
-    ∷ a-usable (usable-as (state 2 0 true 10) (7 ∷ 9 ∷ []) (handle 1 7)) (usable.Refused Detached) ∷ []
+    ∷ a-usable (usable-as (state 2 0 true 10) (7 ∷ 9 ∷ []) (handle 1 7)) (usable.Refused Detached)
+    ∷ a-usable (usable-as (state 2 0 true 10) (7 ∷ 9 ∷ []) (handle 1 7)) (usable.Refused NeverIssued)
+    ∷ a-usable (usable-as (state 2 0 true 10) (7 ∷ 9 ∷ []) (handle 1 10)) (usable.Refused Stale) ∷ []
 
 -- Lengths::of: the capacity in place of the adjoints' own length; children counted by the node
 abbrev pub lengths-of-tried : List Tried
@@ -257,11 +266,14 @@ admit-tried = an-admission (admitted (let-in caller.Recording (kept 5 0 true))) 
 -- ---- wrong answers: expr
 
 -- record: the new node's adjoint as its value; a right handle that is not live refused at NEGATE, which does not use
--- it; an operation past the table recorded; a node recorded past the capacity, or with the last serial
+-- it; 11 before 3 where the left operand is stale and the right one was never issued, and 3 before 11 where they change
+-- places; an operation past the table recorded; a node recorded past the capacity, or with the last serial
 abbrev pub record-tried : List Tried
 record-tried =
     a-step (step (binary NEGATE x0 unused) two) (with-adjoint (minus (float 3)) (recording (minus (float 3)) (to 0 (minus one) ∷ [])))
-    ∷ a-step (step (binary NEGATE x0 stale) two) (refused Refusal·NotLive, two)
+    ∷ a-step (step (binary NEGATE x0 stale) two) (refused Stale, two)
+    ∷ a-step (step (binary ADD stale made-up) two) (refused NeverIssued, two)
+    ∷ a-step (step (binary ADD made-up stale) two) (refused Stale, two)
     ∷ a-step (step (binary UNKNOWN x0 x1) two) (recording nan [])
     ∷ a-step (step (binary NEGATE x0 unused) full) (recorded (minus (float 3)) (issued (full .state)), written full (minus (float 3)) (to 0 (minus one) ∷ []))
     ∷ a-step (step (expr.new-leaf one) spent) (recorded one (issued (spent .state)), written spent one []) ∷ []
@@ -335,24 +347,29 @@ sqrt-tried =
     a-step (step (binary SQRT x0 unused) two) (recording s (to 0 (over 1 6) ∷ []))
     ∷ a-step (step (binary SQRT x0 unused) two) (recording s (to 0 (div binary64 one s) ∷ []))
     ∷ a-step (step (binary SQRT x0 unused) two) (refused UnknownOperation, two)
-    ∷ a-step (step (binary SQRT x0 stale) two) (refused Refusal·NotLive, two) ∷ []
+    ∷ a-step (step (binary SQRT x0 stale) two) (refused Stale, two) ∷ []
 
 -- ---- wrong answers: dual
 
--- value: a number refused 4; the value behind a handle that is not live
+-- value: a number refused 4; the value behind a handle that is not live; 3 for one that was never issued
 abbrev pub value-tried : List Tried
 value-tried = a-step (step (value-of (plain (float 5))) (marked 2)) (refused Detached, marked 2)
-    ∷ a-step (step (value-of stale) (marked 2)) (read-value (float 2), marked 2) ∷ []
+    ∷ a-step (step (value-of stale) (marked 2)) (read-value (float 2), marked 2)
+    ∷ a-step (step (value-of made-up) (marked 2)) (refused Stale, marked 2) ∷ []
 
--- adjoint: a handle that is not live refused 4; 0.0 for a number, which is refused
+-- adjoint: a handle that is not live refused 4; 11 for a stale one; 0.0 for a number, which is refused
 abbrev pub adjoint-tried : List Tried
 adjoint-tried = a-step (step (adjoint-of stale) (marked 2)) (refused Detached, marked 2)
+    ∷ a-step (step (adjoint-of stale) (marked 2)) (refused NeverIssued, marked 2)
     ∷ a-step (step (adjoint-of (plain (float 5))) (marked 2)) (read-value nought, marked 2) ∷ []
 
--- is_live: a refusal for a handle that is not live; a number that is live
+-- is_live: a refusal for a handle that is not live; a number that is live; a stale handle as a number; one that was
+-- never issued as stale
 abbrev pub is-live-tried : List Tried
-is-live-tried = a-step (step (is-live stale) (marked 2)) (refused Refusal·NotLive, marked 2)
-    ∷ a-step (step (is-live (plain (float 5))) (marked 2)) (counted 1, marked 2) ∷ []
+is-live-tried = a-step (step (is-live stale) (marked 2)) (refused Stale, marked 2)
+    ∷ a-step (step (is-live (plain (float 5))) (marked 2)) (counted 1, marked 2)
+    ∷ a-step (step (is-live stale) (marked 2)) (counted 0, marked 2)
+    ∷ a-step (step (is-live made-up) (marked 2)) (counted 2, marked 2) ∷ []
 
 -- reset_adjoints: adjoints past the length cleared; -0.0 for +0.0
 abbrev pub reset-adjoints-tried : List Tried
@@ -360,10 +377,12 @@ reset-adjoints-tried = a-step (step clear (marked 2)) (done, with-adjoints (mark
     ∷ a-step (step clear (marked 2)) (done, with-adjoints (marked 2) (replicate 4 (minus nought) ++ (float 7 ∷ [])))
     ∷ []
 
--- backward: a walk from the end, wherever the root stands; the adjoints cleared first
+-- backward: a walk from the end, wherever the root stands; the adjoints cleared first; 3 for a root that was never
+-- issued
 abbrev pub backward-tried : List Tried
 backward-tried = a-step (step (pass (backward (node-at 2))) (marked 2)) (passed (marked 2) 4 (8 ∷ 9 ∷ 2 ∷ 1 ∷ 7 ∷ []))
-    ∷ a-step (step (pass (backward (node-at 2))) (marked 2)) (passed (marked 2) 2 (2 ∷ 3 ∷ 1 ∷ 0 ∷ 7 ∷ [])) ∷ []
+    ∷ a-step (step (pass (backward (node-at 2))) (marked 2)) (passed (marked 2) 2 (2 ∷ 3 ∷ 1 ∷ 0 ∷ 7 ∷ []))
+    ∷ a-step (step (pass (backward made-up)) (marked 2)) (refused Stale, marked 2) ∷ []
 
 -- backward_to_mark: 1.0 added to the root's adjoint; a walk that begins at the root
 abbrev pub backward-to-mark-tried : List Tried

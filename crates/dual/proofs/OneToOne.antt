@@ -28,16 +28,20 @@ reads-left (read.the-variants.Number v) M = refl
 reads-left (read.the-variants.Refused r) M = refl
 
 abbrev of-count : ℕ → liveness.Liveness
-of-count k = getD (liveness.the-variants.NotLive ∷ []) k liveness.the-variants.Live
+of-count k = getD (liveness.the-variants.Number ∷ liveness.the-variants.Live ∷ liveness.the-variants.Stale ∷ []) k liveness.the-variants.NeverIssued
 
 liveness-back : (x : liveness.Liveness) (M : Machine floats) → by-number (of-count (liveness-outcome x M .0 .count)) liveness.the-variants.Refused (liveness-outcome x M .0 .number) ≡ x
+liveness-back liveness.the-variants.Number M = refl
 liveness-back liveness.the-variants.Live M = refl
-liveness-back liveness.the-variants.NotLive M = refl
+liveness-back liveness.the-variants.Stale M = refl
+liveness-back liveness.the-variants.NeverIssued M = refl
 liveness-back (liveness.the-variants.Refused r) M = at-refusal _ liveness.the-variants.Refused r
 
 liveness-left : (x : liveness.Liveness) (M : Machine floats) → liveness-outcome x M .1 ≡ M
+liveness-left liveness.the-variants.Number M = refl
 liveness-left liveness.the-variants.Live M = refl
-liveness-left liveness.the-variants.NotLive M = refl
+liveness-left liveness.the-variants.Stale M = refl
+liveness-left liveness.the-variants.NeverIssued M = refl
 liveness-left (liveness.the-variants.Refused r) M = refl
 
 cleared-back : (x : cleared.Cleared) (M : Machine floats) → by-number cleared.the-variants.Done cleared.the-variants.Refused (cleared-outcome x M .0 .number) ≡ x

@@ -9,12 +9,13 @@ use lib.Ieee.{Float, nan}
 use lib.ListN.{length, getD, drop, replicate}
 use Rattle.tape.specs.Numbers.{floats}
 use Rattle.tape.specs.Machine.{Machine}
-use Rattle.tape.specs.Handles.{operand, live, amiss}
+use Rattle.tape.specs.Handles.{operand, live, amiss, looked-up, counted-as}
 use Rattle.tape.specs.Answers.{done, read-value, counted}
 use Rattle.tape.specs.Calls.{clear, with-adjoints, value-of, adjoint-of, is-live}
 use Rattle.tape.specs.Admission.{let-in, first}
 use Rattle.tape.specs.Steps.{unless, step}
 use Rattle.tape.specs.declared.errors.Refusal.{Refusal}
+use Rattle.tape.specs.declared.node.Lookup.{Lookup}
 use Rattle.tape.specs.declared.node.Lookup.the-variants as lookup
 use Rattle.tape.specs.declared.node.Usable.the-variants as usable
 use Rattle.tape.specs.declared.node.Operand as code
@@ -30,9 +31,10 @@ by-life : (b : Bool) (r : Refusal) (v : Float) (M : Machine floats) → read-out
 by-life true r v M = refl
 by-life false r v M = refl
 
-counted-life : (b : Bool) (M : Machine floats) → liveness-outcome (liveness-of (cond b lookup.Live lookup.NotLive)) M ≡ (counted (cond b 1 0), M)
-counted-life true M = refl
-counted-life false M = refl
+counted-life : (l : Lookup) (M : Machine floats) → liveness-outcome (liveness-of l) M ≡ (counted (counted-as l), M)
+counted-life lookup.Live M = refl
+counted-life lookup.Stale M = refl
+counted-life lookup.NeverIssued M = refl
 
 module _ (M : Machine floats) where
   pub readable-values : let-in caller.Value M ≡ none → M .state .length ≤ length (M .lent .value)
@@ -57,7 +59,7 @@ module _ (M : Machine floats) where
   pub liveness-so : (x : code.Operand) → let-in caller.Liveness M ≡ none → liveness-outcome (liveness-behind (M .state) (M .lent .serial) x) M ≡ step (is-live (operand x)) M
   unfolding step
   liveness-so (Number v) e = rw e
-  liveness-so (Node h) e = rw e (counted-life (live M h) M)
+  liveness-so (Node h) e = rw e (counted-life (looked-up (M .state) (M .lent .serial) h) M)
 
   -- clearing
   pub cleared-so : (b : List Float) → let-in caller.Clearing M ≡ none → b ≡ replicate (M .state .length) (floats .nought) ++ drop (M .state .length) (M .lent .adjoint) → (done, with-adjoints M b) ≡ step clear M

@@ -44,7 +44,8 @@ behind-node t serials held h = read-by (usable-as t serials h) (getD held (h .in
 
 abbrev pub liveness-of : Lookup → liveness.Liveness
 liveness-of lookup.Live = liveness.the-variants.Live
-liveness-of lookup.NotLive = liveness.the-variants.NotLive
+liveness-of lookup.Stale = liveness.the-variants.Stale
+liveness-of lookup.NeverIssued = liveness.the-variants.NeverIssued
 
 abbrev pub value-behind : Tape → List ℕ → List Float → code.Operand → read.Read
 value-behind t serials held (code.the-variants.Number v) = read.the-variants.Number v
@@ -55,7 +56,7 @@ adjoint-behind t serials held (code.the-variants.Number v) = read.the-variants.R
 adjoint-behind t serials held (code.the-variants.Node h) = behind-node t serials held h
 
 abbrev pub liveness-behind : Tape → List ℕ → code.Operand → liveness.Liveness
-liveness-behind t serials (code.the-variants.Number v) = liveness.the-variants.NotLive
+liveness-behind t serials (code.the-variants.Number v) = liveness.the-variants.Number
 liveness-behind t serials (code.the-variants.Node h) = liveness-of (looked-up t serials h)
 
 -- ---- plans

@@ -20,8 +20,10 @@ read-outcome (read.the-variants.Refused r) M = (refused r, M)
 
 -- is_live
 abbrev pub liveness-outcome : liveness.Liveness → Machine floats → Answer floats × Machine floats
+liveness-outcome liveness.the-variants.Number M = (counted 0, M)
 liveness-outcome liveness.the-variants.Live M = (counted 1, M)
-liveness-outcome liveness.the-variants.NotLive M = (counted 0, M)
+liveness-outcome liveness.the-variants.Stale M = (counted 2, M)
+liveness-outcome liveness.the-variants.NeverIssued M = (counted 3, M)
 liveness-outcome (liveness.the-variants.Refused r) M = (refused r, M)
 
 -- reset_adjoints

@@ -24,15 +24,17 @@ pub enum Read {
     Refused(Refusal),
 }
 
-// Whether a handle is live, or the refusal.
+// What is_live finds an operand to be; or the refusal.
 pub enum Liveness {
     Live,
-    NotLive,
+    Stale,
+    NeverIssued,
+    Number,
     Refused(Refusal),
 }
 
-// The value of a number, which is the number, or of the node behind a handle. Refuses 1, 12 while a walk is open, and 3
-// for a handle that is not live.
+// The value of a number, which is the number, or of the node behind a handle. Refuses 1, 12 while a walk is open, 3 for
+// a stale handle and 11 for one that was never issued.
 pub fn value(
     tape: Tape,
     value: &[f64],
@@ -57,7 +59,7 @@ pub fn value(
 }
 
 // The adjoint of the node behind a handle; while a walk is open, as the slices so far have left it. Refuses 1, 3 for a
-// handle that is not live, and 4 for a number.
+// stale handle, 11 for one that was never issued, and 4 for a number.
 pub fn adjoint(
     tape: Tape,
     value: &[f64],
@@ -81,7 +83,8 @@ pub fn adjoint(
     }
 }
 
-// Whether a handle is live; a number is not. Refuses 1, and 12 while a walk is open.
+// Whether an operand is a live handle, a stale one, one that was never issued, or a number. Refuses 1, and 12 while a
+// walk is open.
 pub fn is_live(
     tape: Tape,
     value: &[f64],
@@ -129,7 +132,7 @@ fn liveness_behind(x: Operand, tape: Tape, serial: &[u64]) -> Liveness
     ensures { λ a. ⌜ a ≡ liveness-behind tape (now (serial .entry)) x ⌝ }
 {
     match x {
-        Operand::Number(_) => Liveness::NotLive,
+        Operand::Number(_) => Liveness::Number,
         Operand::Node(handle) => liveness_of(handle.lookup(tape, serial)),
     }
 }
@@ -153,6 +156,7 @@ fn liveness_of(lookup: Lookup) -> Liveness
 {
     match lookup {
         Lookup::Live => Liveness::Live,
-        Lookup::NotLive => Liveness::NotLive,
+        Lookup::Stale => Liveness::Stale,
+        Lookup::NeverIssued => Liveness::NeverIssued,
     }
 }

@@ -34,8 +34,8 @@ pub enum Recorded {
 }
 
 // Records operation op on its operands. Refuses what does not fit (1), any recording while a walk is open (12), an
-// unknown operation (2), an operand that is used and not live (3) and, while active, a full tape (5) or spent serials
-// (6).
+// unknown operation (2), a used operand that is stale (3) or was never issued (11), the left one before the right, and,
+// while active, a full tape (5) or spent serials (6).
 pub fn record(
     tape: Tape,
     value: &mut [f64],

@@ -109,7 +109,7 @@ fn some_of(out: Out, some: usize, all: usize) -> Out {
 
 fn why_not(out: Out, verdict: Verdict, all: usize) -> Out {
     match verdict {
-        Verdict::Refused(n) => out.text(b"refusal ").number(n),
+        Verdict::Refused(n) => in_words(out.text(b"refusal ").number(n), n),
         Verdict::HighDensity(n) => {
             some_of(out, n, all).text(b" one cell long, as of a high density disk")
         }
@@ -124,6 +124,15 @@ fn why_not(out: Out, verdict: Verdict, all: usize) -> Out {
         Verdict::TurnOff(i) => out.text(b"more than an eighth off in turn ").number(i),
         Verdict::Unsettled => out.text(b"the steps do not settle"),
         Verdict::Fitted => out,
+    }
+}
+
+// Of a refusal, which of the two where a handle is not live.
+fn in_words(out: Out, refusal: usize) -> Out {
+    match refusal {
+        3 => out.text(b" (stale handle)"),
+        11 => out.text(b" (handle never issued)"),
+        _ => out,
     }
 }
 

@@ -30,6 +30,11 @@ pub const REFUSED: u8 = b'!';
 
 pub const LEFT: u8 = b'l';
 
+// The numbers of the refusals that a handle gets which is not live.
+pub const STALE_HANDLE: u64 = 3;
+
+pub const NEVER_ISSUED: u64 = 11;
+
 // The decimal digits of a number at most.
 const MOST_DIGITS: usize = 5;
 

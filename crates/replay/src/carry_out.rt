@@ -52,6 +52,17 @@ pub struct Task {
     pub line: u64,
 }
 
+pub(crate) fn no_task() -> Task {
+    Task {
+        kind: KINDS,
+        left: Operand::Number(0.0),
+        right: Operand::Number(0.0),
+        given: Supplied::NONE,
+        way: Way::InOneGo,
+        line: 0,
+    }
+}
+
 pub(crate) fn carry_out(
     tape: Tape,
     value: &mut [f64],

@@ -3,7 +3,6 @@ use crate::kinds::Subject;
 use crate::orders;
 use crate::roots;
 use crate::sequences;
-use crate::slices::Way;
 use crate::table;
 use crate::tally::Tally;
 use crate::words::byte_at;
@@ -14,7 +13,7 @@ pub(crate) fn replay(list: &[u8], subject: Subject, case: &[u8], before: Tally) 
         Subject::Forward(order) => orders::replay(list, order, case, before.next_line()),
         Subject::Table => table::replay(list, case, before.next_line()),
         Subject::Sequences(way) => sequences::replay(list, way, case, before),
-        Subject::Stale => sequences::replay(list, Way::InOneGo, case, before),
+        Subject::Stale(way) => sequences::replay(list, way, case, before),
         Subject::Roots => roots::replay(list, case, before.next_line()),
     }
 }
@@ -29,7 +28,7 @@ pub(crate) fn is_end(subject: Subject, byte: u8, case: &[u8], pending: usize) ->
         Subject::Forward(_) => true,
         Subject::Table => true,
         Subject::Sequences(_) => ends_in_a_feed(case, pending),
-        Subject::Stale => ends_in_a_feed(case, pending),
+        Subject::Stale(_) => ends_in_a_feed(case, pending),
         Subject::Roots => true,
     }
 }

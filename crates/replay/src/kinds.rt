@@ -9,15 +9,15 @@ use crate::words::is_first_word;
 pub const FORWARD: [u8; 155] =
     *b"constant var zero one reads add sub mul div rem max_val min_val neg abs add_f64 sub_f64 mul_f64 div_f64 rem_f64 sub_from div_into compare compare_f64 sqrt ";
 
-pub const TAPE: [u8; 275] =
-    *b"leaf add sub mul div max min neg supplied_one supplied_two sqrt start_recording stop_recording set_mark reset_mark rewind_to_mark rewind_to_init backward backward_to_mark backward_mark_to_start propagate_to_mark propagate_mark_to_start reset_adjoints value adjoint end stale ";
+pub const TAPE: [u8; 299] =
+    *b"leaf add sub mul div max min neg supplied_one supplied_two sqrt start_recording stop_recording set_mark reset_mark rewind_to_mark rewind_to_init backward backward_to_mark backward_mark_to_start propagate_to_mark propagate_mark_to_start reset_adjoints value adjoint end stale garbage past_the_length ";
 
 // Of forward numbers, of an order, of the tape, with its passes carried out in a way, or of square roots alone.
 pub enum Subject {
     Forward(usize),
     Table,
     Sequences(Way),
-    Stale,
+    Stale(Way),
     Roots,
 }
 
@@ -27,17 +27,18 @@ pub(crate) fn is_reported(subject: Subject, kind: usize, cases: u64) -> bool {
         Subject::Forward(_) => true,
         Subject::Table => tape_kinds::is_operation(kind) & is_met(kind, cases),
         Subject::Sequences(way) => is_of_sequences(way, kind, cases),
-        Subject::Stale => kind == tape_kinds::STALE,
+        Subject::Stale(_) => kind >= tape_kinds::STALE,
         Subject::Roots => kind == tape_kinds::SQRT,
     }
 }
 
-// Where the passes are cut, for them and the stale calls that the list has, and no other kind.
+// Where the passes are cut, for them and the stale calls that the list has, made again with garbage too, and no other
+// kind.
 fn is_of_sequences(way: Way, kind: usize, cases: u64) -> bool {
     if way.is_cut() {
-        return (tape_kinds::is_pass(kind) | (kind == tape_kinds::STALE)) & (cases > 0);
+        return (tape_kinds::is_pass(kind) | (kind >= tape_kinds::STALE)) & (cases > 0);
     }
-    (kind != tape_kinds::STALE) & is_met(kind, cases)
+    (kind < tape_kinds::STALE) & is_met(kind, cases)
 }
 
 fn is_met(kind: usize, cases: u64) -> bool {
@@ -50,7 +51,7 @@ pub(crate) fn way_of(subject: Subject) -> Way {
         Subject::Forward(_) => Way::InOneGo,
         Subject::Table => Way::InOneGo,
         Subject::Sequences(way) => way,
-        Subject::Stale => Way::InOneGo,
+        Subject::Stale(way) => way,
         Subject::Roots => Way::InOneGo,
     }
 }

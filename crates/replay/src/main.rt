@@ -4,6 +4,7 @@ mod carry_out;
 mod cases;
 mod comparison;
 mod forward_kinds;
+mod garbage;
 mod kinds;
 mod lists;
 mod nodes;
@@ -46,7 +47,7 @@ fn tape_lists() {
     replay(b"table.txt", Subject::Table);
     replay(b"sequences.txt", Subject::Sequences(Way::InOneGo));
     replay(b"sessions.txt", Subject::Sequences(Way::InOneGo));
-    replay(b"stale.txt", Subject::Stale);
+    replay(b"stale.txt", Subject::Stale(Way::InOneGo));
     replay(b"supplied_table.txt", Subject::Table);
     replay(b"supplied_sequences.txt", Subject::Sequences(Way::InOneGo));
     replay(b"supplied_sessions.txt", Subject::Sequences(Way::InOneGo));
@@ -86,4 +87,5 @@ fn controls() {
     in_slices(b"supplied_sequences_control.txt");
     in_slices(b"supplied_sessions_control.txt");
     replay(b"slices_control.txt", Subject::Sequences(Way::Unfinished));
+    replay(b"garbage_control.txt", Subject::Stale(Way::Issued));
 }

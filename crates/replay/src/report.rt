@@ -2,10 +2,13 @@
 use crate::calls::BARE;
 use crate::calls::DETACHED;
 use crate::calls::LEFT;
+use crate::calls::NEVER_ISSUED;
 use crate::calls::REFUSED;
+use crate::calls::STALE_HANDLE;
 use crate::calls::Said;
 use crate::calls::VISITED;
 use crate::carry_out::Heard;
+use crate::garbage::Got;
 use crate::kinds;
 use crate::kinds::FORWARD;
 use crate::kinds::Subject;
@@ -16,10 +19,12 @@ use crate::nodes::Outcome;
 use crate::slices::Way;
 use crate::tally::Count;
 use crate::tally::Tally;
+use crate::tape_kinds::GARBAGE;
 use crate::tape_kinds::is_digested;
 use crate::words::Answer;
 use crate::words::DIGITS;
 use crate::words::find;
+use dual::Liveness;
 use libc::STDOUT_FILENO;
 ghost use Prim.Native.Nat.{_≤_};
 
@@ -55,7 +60,7 @@ pub(crate) fn outcome(list: &[u8], at: u64, line: &[u8], got: Outcome) {
     match got {
         Outcome::Node(node) => recorded(node),
         Outcome::NoNode => text(b" no node"),
-        Outcome::Refused(number) => count(b" refusal ", number as u64),
+        Outcome::Refused(number) => refusal(number as u64),
     }
     text(b"\n");
 }
@@ -94,9 +99,59 @@ fn said(answer: Said) {
         BARE => word(answer.bits),
         DETACHED => lettered(b" p", answer.bits),
         VISITED => count(b" v", answer.bits),
-        REFUSED => count(b" refusal ", answer.bits),
+        REFUSED => refusal(answer.bits),
         LEFT => count(b" left ", answer.bits),
         _ => text(b""),
+    }
+}
+
+fn refusal(number: u64) {
+    count(b" refusal ", number);
+    match number {
+        STALE_HANDLE => text(b" (stale handle)"),
+        NEVER_ISSUED => text(b" (handle never issued)"),
+        _ => text(b""),
+    }
+}
+
+// What of a call with another handle for the stale one is not as it has to be.
+pub(crate) fn amiss(list: &[u8], at: u64, got: Got) {
+    place(list, at);
+    if got.kind() == GARBAGE {
+        text(b"garbage");
+    } else {
+        text(b"past_the_length");
+    }
+    count(b" index ", got.handle.index as u64);
+    count(b" serial ", got.handle.serial);
+    text(b" got");
+    if !got.is_refused() {
+        said(got.made.answer);
+    }
+    if !got.is_found() {
+        let liveness = got.liveness;
+        found(liveness);
+    }
+    unless(got.made.same_state, b" another state");
+    unless(got.made.same_values, b" other values");
+    unless(got.made.same_adjoints, b" other adjoints");
+    text(b"\n");
+}
+
+fn found(liveness: Liveness) {
+    text(b" is_live");
+    match liveness {
+        Liveness::Live => text(b" live"),
+        Liveness::Stale => text(b" stale"),
+        Liveness::NeverIssued => text(b" never issued"),
+        Liveness::Number => text(b" a number"),
+        Liveness::Refused(why) => refusal(why.number() as u64),
+    }
+}
+
+fn unless(same: bool, words: &[u8]) {
+    if !same {
+        text(words);
     }
 }
 
@@ -139,7 +194,7 @@ pub(crate) fn summary(list: &[u8], subject: Subject, tally: Tally) {
         Subject::Forward(_) => each_kind(list, subject, &FORWARD, tally),
         Subject::Table => each_of_the_tape(list, subject, tally),
         Subject::Sequences(_) => each_of_the_tape(list, subject, tally),
-        Subject::Stale => each_of_the_tape(list, subject, tally),
+        Subject::Stale(_) => each_of_the_tape(list, subject, tally),
         Subject::Roots => each_of_the_tape(list, subject, tally),
     }
     let way = kinds::way_of(subject);
@@ -164,6 +219,7 @@ fn title(list: &[u8], way: Way) {
         Way::InOneGo => text(b""),
         Way::InSlices => text(b" in slices"),
         Way::Unfinished => text(b" unfinished"),
+        Way::Issued => text(b" issued"),
     }
 }
 

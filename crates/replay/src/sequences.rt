@@ -3,11 +3,14 @@ use crate::calls;
 use crate::calls::Call;
 use crate::calls::NODE;
 use crate::calls::REFUSED;
+use crate::calls::STALE_HANDLE;
 use crate::calls::Said;
 use crate::carry_out;
 use crate::carry_out::Heard;
 use crate::carry_out::Task;
 use crate::carry_out::with_digests;
+use crate::garbage;
+use crate::garbage::Got;
 use crate::nodes::NO_CHILD;
 use crate::nodes::NO_COUNT;
 use crate::nodes::UNLIKELY;
@@ -28,20 +31,20 @@ use tape::Operand;
 use tape::Tape;
 
 // More nodes than a sequence has on the tape.
-const CAPACITY: usize = 400;
+pub const CAPACITY: usize = 400;
 
 const SLOTS: usize = 2 * CAPACITY;
 
 // More nodes than a sequence records.
 const NODES: usize = 32_768;
 
-// The number of the refusal that a stale handle gets.
-const NOT_LIVE: u64 = 3;
-
 // How far a sequence has come.
-struct Run {
-    way: Way,
-    tape: Tape,
+pub struct Run {
+    pub way: Way,
+    pub tape: Tape,
+    // The call made last, and whether it was refused for a stale handle as it has to be.
+    pub last: Task,
+    stale: bool,
     // Whether another call may come.
     going: bool,
     // Whether a line differs or is no call. What comes after it is left out, since the two tapes may be unlike from
@@ -71,7 +74,17 @@ pub(crate) fn replay(list: &[u8], way: Way, lines: &[u8], tally: Tally) -> Tally
         &mut child,
         &mut partial,
     );
-    run.finished(list)
+    let tried = garbage::replay(
+        run,
+        list,
+        &mut value,
+        &mut adjoint,
+        &mut serial,
+        &mut count,
+        &mut child,
+        &mut partial,
+    );
+    tried.finished(list)
 }
 
 fn each_line(
@@ -127,6 +140,7 @@ fn one_line(
     if call.kind >= STALE {
         return run.malformed(list);
     }
+    let task = run.task(call, &*places);
     let heard = carry_out::carry_out(
         run.tape,
         value,
@@ -135,11 +149,11 @@ fn one_line(
         count,
         child,
         partial,
-        run.task(call, &*places),
+        task,
     );
     keep(places, heard.node);
     let digested = with_digests(heard, call.kind, &*value, &*adjoint);
-    run.judged(list, line, call, digested)
+    run.judged(list, line, call, task, digested)
 }
 
 fn given(call: Call) -> Supplied {
@@ -192,6 +206,8 @@ impl Run {
         Run {
             way,
             tape: Tape::new(),
+            last: carry_out::no_task(),
+            stale: false,
             going: true,
             broken: false,
             tally,
@@ -244,12 +260,13 @@ impl Run {
         run.tally.next_run(run.broken)
     }
 
-    fn judged(self, list: &[u8], line: &[u8], call: Call, heard: Heard) -> Run {
-        let mut run = self.after(heard);
+    fn judged(self, list: &[u8], line: &[u8], call: Call, task: Task, heard: Heard) -> Run {
+        let mut run = self.after(task, heard);
         let kind = counted_as(call);
         let agrees = agrees(call, heard);
         run.tally = run.tally.next_case(kind, agrees, NOTHING);
         if agrees {
+            run.stale = kind == STALE;
             run.going = (kind != END) & (kind != STALE);
             return run;
         }
@@ -257,11 +274,28 @@ impl Run {
         run.broken()
     }
 
-    fn after(mut self, heard: Heard) -> Run {
+    fn after(mut self, task: Task, heard: Heard) -> Run {
         let tape = heard.tape;
         self.tape = tape;
+        self.last = task;
         self.tally = self.tally.more_slices(heard.slices);
         self
+    }
+
+    // Whether the sequence agrees, and ends with a stale call.
+    pub(crate) fn ends_stale(self) -> bool {
+        self.stale & !self.broken
+    }
+
+    // A call with another handle in the place of the stale one.
+    pub(crate) fn tried(mut self, list: &[u8], got: Got) -> Run {
+        let agrees = got.agrees();
+        self.tally = self.tally.next_case(got.kind(), agrees, NOTHING);
+        if agrees {
+            return self;
+        }
+        report::amiss(list, self.tally.lines, got);
+        self.broken()
     }
 }
 
@@ -272,7 +306,7 @@ fn counted_as(call: Call) -> usize {
 // Whether the port answered as the Rust did, or refused a stale handle as such.
 fn agrees(call: Call, heard: Heard) -> bool {
     if call.stale {
-        return is_said(heard.answer, REFUSED, NOT_LIVE);
+        return is_said(heard.answer, REFUSED, STALE_HANDLE);
     }
     is_said(heard.answer, call.answer.letter, call.answer.bits)
         & (heard.values == call.values.bits)

@@ -16,11 +16,13 @@ use tape::Operand;
 use tape::Refusal;
 use tape::Tape;
 
-// How the passes of a sequence are carried out. An unfinished one lacks its last slice, which has to be told.
+// How the passes of a sequence are carried out. An unfinished one lacks its last slice, which has to be told; and so has
+// that in the place of garbage there are handles which were issued.
 pub enum Way {
     InOneGo,
     InSlices,
     Unfinished,
+    Issued,
 }
 
 impl Way {
@@ -29,6 +31,7 @@ impl Way {
             Way::InOneGo => false,
             Way::InSlices => true,
             Way::Unfinished => true,
+            Way::Issued => false,
         }
     }
 
@@ -37,6 +40,16 @@ impl Way {
             Way::InOneGo => true,
             Way::InSlices => true,
             Way::Unfinished => false,
+            Way::Issued => true,
+        }
+    }
+
+    pub(crate) fn is_issued(self) -> bool {
+        match self {
+            Way::InOneGo => false,
+            Way::InSlices => false,
+            Way::Unfinished => false,
+            Way::Issued => true,
         }
     }
 }
@@ -204,7 +217,7 @@ impl Cut {
     fn opened(self, sliced: Sliced) -> Cut {
         match sliced {
             Sliced::Walked(edges, left, tape) => self.walked(edges, left, tape),
-            Sliced::Refused(refusal, _) => self.refused(refusal),
+            Sliced::Refused(refusal, tape) => self.on(tape).refused(refusal),
         }
     }
 
@@ -216,6 +229,11 @@ impl Cut {
             }
             Sliced::Refused(refusal, _) => self.refused(refusal),
         }
+    }
+
+    fn on(mut self, tape: Tape) -> Cut {
+        self.tape = tape;
+        self
     }
 
     fn walked(mut self, edges: u32, left: usize, tape: Tape) -> Cut {

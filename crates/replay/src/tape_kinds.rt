@@ -55,8 +55,14 @@ pub const END: usize = OTHERS + 3;
 
 pub const STALE: usize = OTHERS + 4;
 
+// What stands in no line: the calls made again with another handle for the stale one, one that was never issued, or one
+// of the same serial at an index past the length.
+pub const GARBAGE: usize = STALE + 1;
+
+pub const PAST_THE_LENGTH: usize = STALE + 2;
+
 // How many there are, more than of forward numbers. As a kind, none of either.
-pub const KINDS: usize = STALE + 1;
+pub const KINDS: usize = PAST_THE_LENGTH + 1;
 
 pub(crate) fn is_operation(kind: usize) -> bool {
     kind < CALLS

@@ -26,7 +26,7 @@ among k (n ∷ ns) = eqb n k || among k ns
 
 -- document 01's list of refusals
 abbrev pub listed : List ℕ
-listed = 1 ∷ 2 ∷ 3 ∷ 4 ∷ 5 ∷ 6 ∷ 7 ∷ 8 ∷ 12 ∷ 13 ∷ []
+listed = 1 ∷ 2 ∷ 3 ∷ 4 ∷ 5 ∷ 6 ∷ 7 ∷ 8 ∷ 11 ∷ 12 ∷ 13 ∷ []
 
 -- Proved in proofs/Answered.antt
 pub record Demand1 : Type 1 where

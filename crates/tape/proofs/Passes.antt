@@ -212,7 +212,8 @@ module _ {N : Numbers} (M : Machine N) (nodes : SoundNodes M) where
     out-of-turn = λ _ e. omega arith;
     unfit = λ e. omega arith;
     unknown = λ e. omega arith;
-    not-live = λ h e. omega arith;
+    stale = λ _ _ _ _ e. omega arith;
+    never-issued = λ _ _ _ _ e. omega arith;
     detached = λ e. omega arith;
     full = λ e. omega arith;
     spent = λ e. omega arith;

@@ -1,10 +1,12 @@
 -- The statements of specs/, each with its proof.
 use Rattle.tape.specs.Answers.{OneToOne}
 use Rattle.tape.specs.Kept.{StaleHandles, Revived, Serials, Recording}
+use Rattle.tape.specs.Issued.{Sorting, TakenUpLater}
 use Rattle.tape.specs.Passes.{EachEdge, OnlyAdjoints, EmptyRange, BothRanges, NeverUnsound}
 use Rattle.tape.specs.Slices.{Turns, AnyCutting, GoesOn, AllOneSize, EachSlice}
-use Rattle.tape.specs.Rows.{EveryRow, EveryChoice, EveryRoot, EverySlice, EveryText}
+use Rattle.tape.specs.Rows.{EveryRow, EveryChoice, EveryRoot, EverySlice, EveryHandle, EveryText}
 use Rattle.tape.specs.Pairs.{Order}
+use Rattle.tape.proofs.Issued as sorted
 use Rattle.tape.proofs.OneToOne as answers
 use Rattle.tape.proofs.Pairs as pairs
 use Rattle.tape.proofs.Passes as passes
@@ -27,6 +29,12 @@ revived = alive.revived
 
 serials : Serials
 serials = counted.serials-kept
+
+sorting : Sorting
+sorting = sorted.sorting
+
+taken-up-later : TakenUpLater
+taken-up-later = sorted.taken-up-later
 
 recording : Recording
 recording = recorded.recording
@@ -72,6 +80,9 @@ every-root = rows.every-root
 
 every-slice : EverySlice
 every-slice = rows.every-slice
+
+every-handle : EveryHandle
+every-handle = rows.every-handle
 
 every-text : EveryText
 every-text = rows.every-text

@@ -4,7 +4,7 @@ use mathlib.Core.Bool.{false}
 use lib.IntN.{pos}
 use lib.Ieee.{fin, binary64, add, sub, mul, div, neg, lt, le, round, ofInt, ofBits, toBits}
 use Rattle.root.specs.Value.{root}
-use Rattle.tape.specs.Rows.{Holds, float, rooted, EveryRow, EveryChoice, EveryRoot, EverySlice, EveryText}
+use Rattle.tape.specs.Rows.{Holds, float, rooted, EveryRow, EveryChoice, EveryRoot, EverySlice, EveryHandle, EveryText}
 use Rattle.tape.specs.Steps.{step}
 
 pub every-row : EveryRow
@@ -128,6 +128,24 @@ every-slice = (
   (refl, (refl, tt)),
   (refl, (refl, tt)),
   (refl, (refl, tt)),
+)
+
+pub every-handle : EveryHandle
+unfolding step add sub mul div neg lt le ofInt ofBits toBits
+every-handle = (
+  (refl, (refl, tt)),
+  (refl, (refl, tt)),
+  (refl, (refl, tt)),
+  (refl, (refl, tt)),
+  (refl, (refl, tt)),
+  (refl, (refl, tt)),
+  (refl, (refl, tt)),
+  (refl, (refl, tt)),
+  (refl, (refl, tt)),
+  (refl, (refl, tt)),
+  (refl, (refl, tt)),
+  (refl, (refl, tt)),
+  (refl, tt),
 )
 
 pub every-text : EveryText

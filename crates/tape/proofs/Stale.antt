@@ -28,9 +28,9 @@ issued-kept M _ (keeps l e) is = λ i h. omega (arith, is i (omega arith))
 issued-kept M _ (records v es r s) is = after-set (λ i k. k < M .state .next + 1) (M .lent .serial) _ _ (omega arith) (omega arith) (λ i h. omega (arith, is i h))
 
 -- not live, its serial given out
-record Past {N : Numbers} (h : Handle) (M : Machine N) : Type 0 where
-  dead : Lives (M .state .length) (M .lent .serial) h → ⊥
-  serial : h .serial < M .state .next
+pub record Past {N : Numbers} (h : Handle) (M : Machine N) : Type 0 where
+  pub dead : Lives (M .state .length) (M .lent .serial) h → ⊥
+  pub serial : h .serial < M .state .next
 
 past-kept : {N : Numbers} (h : Handle) (M : Machine N) (x : Answer N × Machine N) → Effect M x → Past h M → Past h (x .1)
 past-kept h M _ (keeps l e) p = record { dead = λ a. p .dead (record { below = omega arith; serial = a .serial; same = a .same }); serial = omega arith }
@@ -44,6 +44,9 @@ past-kept h M _ (records v es r s) p =
       serial = omega arith;
     }
 
+pub past-dead : {N : Numbers} (h : Handle) (later : List (Call N)) (M : Machine N) → Past h M → live (after later M) h ≡ false
+past-dead h later M p = is-false _ (λ t. kept (Past h) (past-kept h) later M p .dead (lives-parts _ _ h t))
+
 module _ {N : Numbers} (M : Machine N) (h : Handle) (is : SerialsIssued M) (was : live M h ≡ true) where
   -- its serial was given out, and still is
   given-out : (cs : List (Call N)) → h .serial < after cs M .state .next
@@ -53,8 +56,7 @@ module _ {N : Numbers} (M : Machine N) (h : Handle) (is : SerialsIssued M) (was 
 
   never-again : (between later : List (Call N)) → live (after between M) h ≡ false → live (after later (after between M)) h ≡ false
   never-again between later stopped =
-      let p : Past h (after between M) = record { dead = λ a. true≢false (sym (lives-so _ _ h a) ∙ stopped); serial = given-out between } in
-      is-false _ (λ t. kept (Past h) (past-kept h) later (after between M) p .dead (lives-parts _ _ h t))
+      past-dead h later (after between M) (record { dead = λ a. true≢false (sym (lives-so _ _ h a) ∙ stopped); serial = given-out between })
 
 from-new : {N : Numbers} (A : Arrays N) (cs : List (Call N)) → SerialsIssued (after cs (fresh A))
 from-new A cs = kept SerialsIssued issued-kept cs (fresh A) (λ i h. absurd (omega arith))

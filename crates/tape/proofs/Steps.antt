@@ -12,7 +12,7 @@ use lib.Dec.{ltb, eqb}
 use lib.ListN.{length, getD}
 use Rattle.tape.specs.Numbers.{Numbers}
 use Rattle.tape.specs.Machine.{Machine, arrays, machine, capacity, all, most-nodes, most-edges}
-use Rattle.tape.specs.Handles.{Operand, plain, node, live, amiss, any-plain, operand-value, handles, lives}
+use Rattle.tape.specs.Handles.{Operand, plain, node, live, never-issued, amiss, any-plain, operand-value, handles, lives}
 use Rattle.tape.specs.Operations.{Given, apply, one-sided}
 use Rattle.tape.specs.Walk.{Edge, sound}
 use Rattle.tape.specs.Answers.{Answer, number, answer, refused, recorded}
@@ -21,9 +21,10 @@ use Rattle.tape.specs.Admission.{lengths, is-lent, fitting, fits, while-
 use Rattle.tape.specs.Refusals.{Asked, too-long, mover, asked, refusals, refusal-of, unknown, first-amiss, would-record, last-serial}
 use Rattle.tape.specs.Steps.{unless, step}
 use Rattle.tape.specs.Kept.{after}
+use Rattle.tape.specs.Issued.{first-not-live}
 use Rattle.tape.proofs.Tests.{by-test, by-or, every, Fit, fit, state-fit}
 use Rattle.tape.specs.declared.errors.Refusal.{Refusal}
-use Rattle.tape.specs.declared.errors.Refusal.the-variants.{Misshapen, UnknownOperation, Detached, Full, SerialsSpent, UnsoundEdge, ListingTooLong, OutOfTurn, UnfitSlice}
+use Rattle.tape.specs.declared.errors.Refusal.the-variants.{Misshapen, UnknownOperation, Stale, Detached, Full, SerialsSpent, UnsoundEdge, ListingTooLong, NeverIssued, OutOfTurn, UnfitSlice}
 use Rattle.tape.specs.declared.admission.Admission.{Admission}
 use Rattle.tape.specs.declared.admission.Admission.the-variants as door
 use Rattle.tape.specs.declared.admission.Caller.{Caller}
@@ -51,7 +52,7 @@ abbrev AllNone : List (Option Refusal) → Type 0
 AllNone [] = Unit {0}
 AllNone (o ∷ os) = (o ≡ none) × AllNone os
 
-not-some : {P : Type 0} {r : Refusal} → some r ≡ none → P
+pub not-some : {A P : Type 0} {x : A} → some x ≡ none → P
 not-some e = let z : _≡_ {A = ℕ} 0 1 = cc in absurd (omega arith)
 
 all-none : (os : List (Option Refusal)) → first os ≡ none → AllNone os
@@ -133,9 +134,15 @@ when-gives : (P : Refusal → Type 0) (b : Bool) (q : Refusal) → (b ≡ true �
 when-gives P true q p r e = subst P (Option·some-injective _ _ e) (p refl)
 when-gives P false q p r e = not-some (sym e)
 
-amiss-gives : {N : Numbers} (P : Refusal → Type 0) (M : Machine N) → ((h : Handle) → P (amiss (M .state) h)) → (hs : List Handle) (r : Refusal) → first-amiss M hs ≡ some r → P r
-amiss-gives P M p [] r = λ e. not-some (sym e)
-amiss-gives P M p (h ∷ hs) r = by-test (λ o. o ≡ some r → P r) (live M h) (λ _. amiss-gives P M p hs r) (λ _ e. subst P (Option·some-injective _ _ e) (p h))
+amiss-gives : {N : Numbers} (P : Refusal → Type 0) (M : Machine N) (hs : List Handle) → ((h : Handle) → first-not-live M hs ≡ some h → P (amiss (M .state) h)) → (r : Refusal) → first-amiss M hs ≡ some r → P r
+amiss-gives P M [] p r = λ e. not-some (sym e)
+amiss-gives P M (h ∷ hs) p r = by-life (live M h) p (λ q. amiss-gives P M hs q r) where
+  Deciding : Option Handle → Type 0
+  Deciding o = (k : Handle) → o ≡ some k → P (amiss (M .state) k)
+
+  by-life : (b : Bool) → Deciding (cond b (first-not-live M hs) (some h)) → (Deciding (first-not-live M hs) → first-amiss M hs ≡ some r → P r) → cond b (first-amiss M hs) (some (amiss (M .state) h)) ≡ some r → P r
+  by-life true p others = others p
+  by-life false p others = λ e. subst P (Option·some-injective _ _ e) (p h refl)
 
 head-gives : {N : Numbers} (P : Refusal → Type 0) (k : Caller) (M : Machine N) → P Misshapen → (in-turn (M .state .walk) k ≡ false → P OutOfTurn) → P UnfitSlice → (r : Refusal) → let-in k M ≡ some r → P r
 head-gives P k M one twelve thirteen =
@@ -154,7 +161,8 @@ pub record Gives {N : Numbers} (P : Refusal → Type 0) (q : Asked N) (M : Machi
   pub out-of-turn : in-turn (M .state .walk) (q .caller) ≡ false → P OutOfTurn
   pub unfit : P UnfitSlice
   pub unknown : P UnknownOperation
-  pub not-live : (h : Handle) → P (amiss (M .state) h)
+  pub stale : let-in (q .caller) M ≡ none → (h : Handle) → first-not-live M (handles (q .operands)) ≡ some h → never-issued (M .state) h ≡ false → P Stale
+  pub never-issued : let-in (q .caller) M ≡ none → (h : Handle) → first-not-live M (handles (q .operands)) ≡ some h → never-issued (M .state) h ≡ true → P NeverIssued
   pub detached : P Detached
   pub full : P Full
   pub spent : P SerialsSpent
@@ -169,7 +177,7 @@ by-table P c M g =
       λ in-so. (
         when-gives P (unknown (q .operation)) UnknownOperation (λ _. g .unknown),
         λ _. (
-          amiss-gives P M (g .not-live) (handles (q .operands)),
+          amiss-gives P M (handles (q .operands)) (λ h e. by-test P (never-issued (M .state) h) (g .never-issued in-so h e) (g .stale in-so h e)),
           λ all-live. (
             when-gives P (q .on-tape && any-plain (q .operands)) Detached (λ _. g .detached),
             λ _. (

@@ -6,7 +6,7 @@ use mathlib.Core.Option.{Option, none, some}
 use Rattle.tape.specs.Numbers.{Numbers, floats}
 use Rattle.tape.specs.Machine.{Arrays, Machine, machine}
 use Rattle.tape.specs.declared.errors.Refusal.{Refusal}
-use Rattle.tape.specs.declared.errors.Refusal.the-variants.{Misshapen, UnknownOperation, NotLive, Detached, Full, SerialsSpent, UnsoundEdge, ListingTooLong, OutOfTurn, UnfitSlice}
+use Rattle.tape.specs.declared.errors.Refusal.the-variants.{Misshapen, UnknownOperation, Stale, Detached, Full, SerialsSpent, UnsoundEdge, ListingTooLong, NeverIssued, OutOfTurn, UnfitSlice}
 use Rattle.tape.specs.declared.node.Handle.{Handle}
 use Rattle.tape.specs.declared.tape.Moved.{Moved}
 use Rattle.tape.specs.declared.tape.Moved.the-variants.{Done, Refused}
@@ -14,12 +14,13 @@ use Rattle.tape.specs.declared.tape.Moved.the-variants.{Done, Refused}
 abbrev pub number : Refusal → ℕ
 number Misshapen = 1
 number UnknownOperation = 2
-number NotLive = 3
+number Stale = 3
 number Detached = 4
 number Full = 5
 number SerialsSpent = 6
 number UnsoundEdge = 7
 number ListingTooLong = 8
+number NeverIssued = 11
 number OutOfTurn = 12
 number UnfitSlice = 13
 
@@ -49,7 +50,7 @@ read-value v = answer 0 v none 0 0
 abbrev pub detached : {N : Numbers} → N .Number → Answer N
 detached v = read-value v
 
--- edges visited, bytes written, or 1 for a handle that is live and 0 for one that is not
+-- edges visited, bytes written, or what is_live finds (`liveness` in Handles.antt)
 abbrev pub counted : {N : Numbers} → ℕ → Answer N
 counted {N} n = answer 0 (N .nought) none n 0
 

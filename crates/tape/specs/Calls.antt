@@ -8,7 +8,7 @@ use lib.ListN.{length, set, drop, replicate}
 use lib.Seq.{sets}
 use Rattle.tape.specs.Numbers.{Numbers}
 use Rattle.tape.specs.Machine.{Arrays, Machine, arrays, machine, slot, with-length, with-mark, with-active, with-next, with-walk, span, walk-left}
-use Rattle.tape.specs.Handles.{Operand, plain, node, operand-value, gradient, is-live-node}
+use Rattle.tape.specs.Handles.{Operand, plain, node, operand-value, gradient, liveness}
 use Rattle.tape.specs.Operations.{Given, Row, apply}
 use Rattle.tape.specs.Walk.{Edge, walk, edges-at, indexes, visited}
 use Rattle.tape.specs.Listing.{listing}
@@ -177,5 +177,5 @@ carried {N} (slice n) M =
     (cut (visited (M .lent) (range P)) (nodes-in (slice-leaves n s)), leaving (slice-leaves n s) (walked P M))
 carried (value-of x) M = (read-value (operand-value M x), M)
 carried (adjoint-of x) M = (read-value (gradient M x), M)
-carried (is-live x) M = (counted (cond (is-live-node M x) 1 0), M)
+carried (is-live x) M = (counted (liveness M x), M)
 carried (list bytes) M = (counted (length (listing M)), M)

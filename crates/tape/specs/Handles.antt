@@ -1,13 +1,13 @@
 -- Handles, and what a caller carries: a plain number or a handle.
 use Prim.Native.Nat.{ℕ}
-use mathlib.Core.Bool.{Bool, true, false, not, cond}
+use mathlib.Core.Bool.{Bool, true, false, not, _||_, cond}
 use mathlib.Core.List.{List, [], _∷_}
 use lib.Dec.{ltb, eqb}
 use lib.ListN.{getD}
 use Rattle.tape.specs.Numbers.{Numbers, floats}
 use Rattle.tape.specs.Machine.{Machine, all}
 use Rattle.tape.specs.declared.errors.Refusal.{Refusal}
-use Rattle.tape.specs.declared.errors.Refusal.the-variants.{NotLive}
+use Rattle.tape.specs.declared.errors.Refusal.the-variants.{Stale, NeverIssued}
 use Rattle.tape.specs.declared.node.Handle.{Handle}
 use Rattle.tape.specs.declared.node.Lookup.{Lookup}
 use Rattle.tape.specs.declared.node.Lookup.the-variants as lookup
@@ -21,13 +21,17 @@ abbrev pub lives : ℕ → List ℕ → Handle → Bool
 lives length serials h =
     all (ltb (h .index) length ∷ not (eqb (h .serial) 0) ∷ eqb (getD serials (h .index) 0) (h .serial) ∷ [])
 
--- why a handle that is not live is refused
+-- its serial was not given out so far: it is 0, or not below the next one
+abbrev pub never-issued : Tape → Handle → Bool
+never-issued t h = eqb (h .serial) 0 || not (ltb (h .serial) (t .next))
+
+-- why a handle that is not live is refused: its serial alone sorts it
 abbrev pub amiss : Tape → Handle → Refusal
-amiss t h = NotLive
+amiss t h = cond (never-issued t h) NeverIssued Stale
 
 -- what a lookup answers
 abbrev pub looked-up : Tape → List ℕ → Handle → Lookup
-looked-up t serials h = cond (lives (t .length) serials h) lookup.Live lookup.NotLive
+looked-up t serials h = cond (lives (t .length) serials h) lookup.Live (cond (never-issued t h) lookup.NeverIssued lookup.Stale)
 
 -- and a call that needs a live handle
 abbrev pub usable-as : Tape → List ℕ → Handle → Usable
@@ -55,10 +59,16 @@ abbrev pub gradient : {N : Numbers} → Machine N → Operand N → N .Number
 gradient {N} M (plain x) = N .nought
 gradient {N} M (node h) = getD (M .lent .adjoint) (h .index) (N .blank)
 
--- a plain number is not live
-abbrev pub is-live-node : {N : Numbers} → Machine N → Operand N → Bool
-is-live-node M (plain x) = false
-is-live-node M (node h) = live M h
+-- a lookup's answer as a count
+abbrev pub counted-as : Lookup → ℕ
+counted-as lookup.Live = 1
+counted-as lookup.Stale = 2
+counted-as lookup.NeverIssued = 3
+
+-- what is_live counts: what the lookup answers, and 0 for a plain number
+abbrev pub liveness : {N : Numbers} → Machine N → Operand N → ℕ
+liveness M (plain x) = 0
+liveness M (node h) = counted-as (looked-up (M .state) (M .lent .serial) h)
 
 -- the handles among some operands
 abbrev pub handles : {N : Numbers} → List (Operand N) → List Handle

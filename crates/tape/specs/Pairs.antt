@@ -16,7 +16,7 @@ use Rattle.tape.specs.Refusals.{last-serial}
 use Rattle.tape.specs.Steps.{step}
 use Rattle.tape.specs.Rows.{float, handle, node-at, leaf, binary, with-open}
 use Rattle.tape.specs.declared.errors.Refusal.{Refusal}
-use Rattle.tape.specs.declared.errors.Refusal.the-variants.{Misshapen, UnknownOperation, NotLive, Detached, Full, SerialsSpent, UnsoundEdge, ListingTooLong, OutOfTurn, UnfitSlice}
+use Rattle.tape.specs.declared.errors.Refusal.the-variants.{Misshapen, UnknownOperation, Stale, Detached, Full, SerialsSpent, UnsoundEdge, ListingTooLong, NeverIssued, OutOfTurn, UnfitSlice}
 
 -- ---- what they meet on
 
@@ -55,8 +55,12 @@ walking M = with-open 0 2 M
 abbrev pub spent : Arrays floats → Machine floats
 spent A = machine (state 2 0 true last-serial) A
 
+-- serial 1 was given out, and node 1 has another; the last serial is never given out
 abbrev pub stale : Operand floats
-stale = node (handle 1 9)
+stale = node (handle 1 1)
+
+abbrev pub made-up : Operand floats
+made-up = node (handle 1 last-serial)
 
 abbrev pub a-number : Operand floats
 a-number = plain (float 5)
@@ -75,7 +79,9 @@ Refused c M r = step c M .0 ≡ refused r
 pub record Order : Type 0 where
   pub one-and-two : Refused (unknown (node-at 0)) (misshapen roomy) Misshapen
       × Refused (unknown (node-at 0)) (on roomy) UnknownOperation
-  pub one-and-three : Refused (value-of stale) (misshapen roomy) Misshapen × Refused (value-of stale) (on roomy) NotLive
+  pub one-and-three : Refused (value-of stale) (misshapen roomy) Misshapen × Refused (value-of stale) (on roomy) Stale
+  pub one-and-eleven : Refused (value-of made-up) (misshapen roomy) Misshapen
+      × Refused (value-of made-up) (on roomy) NeverIssued
   pub one-and-four : Refused (adjoint-of a-number) (misshapen roomy) Misshapen
       × Refused (adjoint-of a-number) (on roomy) Detached
   pub one-and-five : Refused (leaf (float 5)) (misshapen full) Misshapen × Refused (leaf (float 5)) (on full) Full
@@ -85,16 +91,29 @@ pub record Order : Type 0 where
       × Refused (pass (backward (node-at 1))) (on unsound) UnsoundEdge
   pub one-and-eight : Refused (list 0) (misshapen roomy) Misshapen × Refused (list 0) (on roomy) ListingTooLong
   pub two-and-three : Refused (unknown stale) (on roomy) UnknownOperation
-      × Refused (binary ADD stale stale) (on roomy) NotLive
+      × Refused (binary ADD stale stale) (on roomy) Stale
+  pub two-and-eleven : Refused (unknown made-up) (on roomy) UnknownOperation
+      × Refused (binary ADD made-up made-up) (on roomy) NeverIssued
+  -- the first operand that is not live decides, left before right
+  pub three-and-eleven : Refused (binary ADD stale made-up) (on roomy) Stale
+      × Refused (binary ADD (node-at 0) made-up) (on roomy) NeverIssued
+  pub eleven-and-three : Refused (binary ADD made-up stale) (on roomy) NeverIssued
+      × Refused (binary ADD (node-at 0) stale) (on roomy) Stale
   pub two-and-five : Refused (unknown (node-at 0)) (on full) UnknownOperation
       × Refused (binary ADD (node-at 0) (node-at 0)) (on full) Full
   pub two-and-six : Refused (unknown (node-at 0)) (spent roomy) UnknownOperation
       × Refused (binary ADD (node-at 0) (node-at 0)) (spent roomy) SerialsSpent
-  pub three-and-five : Refused (binary NEGATE stale stale) (on full) NotLive
+  pub three-and-five : Refused (binary NEGATE stale stale) (on full) Stale
       × Refused (binary NEGATE (node-at 0) stale) (on full) Full
-  pub three-and-six : Refused (binary NEGATE stale stale) (spent roomy) NotLive
+  pub eleven-and-five : Refused (binary NEGATE made-up stale) (on full) NeverIssued
+      × Refused (binary NEGATE (node-at 0) stale) (on full) Full
+  pub three-and-six : Refused (binary NEGATE stale stale) (spent roomy) Stale
       × Refused (binary NEGATE (node-at 0) stale) (spent roomy) SerialsSpent
-  pub three-and-seven : Refused (pass (backward stale)) (on unsound) NotLive
+  pub eleven-and-six : Refused (binary NEGATE made-up stale) (spent roomy) NeverIssued
+      × Refused (binary NEGATE (node-at 0) stale) (spent roomy) SerialsSpent
+  pub three-and-seven : Refused (pass (backward stale)) (on unsound) Stale
+      × Refused (pass (backward (node-at 1))) (on unsound) UnsoundEdge
+  pub eleven-and-seven : Refused (pass (backward made-up)) (on unsound) NeverIssued
       × Refused (pass (backward (node-at 1))) (on unsound) UnsoundEdge
   pub four-and-seven : Refused (pass (backward-to-mark a-number)) (on unsound) Detached
       × Refused (pass (backward-to-mark (node-at 1))) (on unsound) UnsoundEdge
@@ -106,7 +125,9 @@ pub record Order : Type 0 where
   pub twelve-and-two : Refused (unknown (node-at 0)) (walking (on roomy)) OutOfTurn
       × Refused (unknown (node-at 0)) (on roomy) UnknownOperation
   pub twelve-and-three : Refused (value-of stale) (walking (on roomy)) OutOfTurn
-      × Refused (value-of stale) (on roomy) NotLive
+      × Refused (value-of stale) (on roomy) Stale
+  pub twelve-and-eleven : Refused (value-of made-up) (walking (on roomy)) OutOfTurn
+      × Refused (value-of made-up) (on roomy) NeverIssued
   pub twelve-and-four : Refused (open-pass (backward a-number)) (walking (on roomy)) OutOfTurn
       × Refused (open-pass (backward a-number)) (on roomy) Detached
   pub twelve-and-five : Refused (leaf (float 5)) (walking (on full)) OutOfTurn × Refused (leaf (float 5)) (on full) Full

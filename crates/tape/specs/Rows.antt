@@ -17,9 +17,11 @@ use Rattle.tape.specs.Operations.{Given, LEAF, ADD, MULTIPLY, MAX, MIN, 
 use Rattle.tape.specs.Listing.{header, listing}
 use Rattle.tape.specs.Answers.{Answer, refused, done, read-value, recorded, counted, cut}
 use Rattle.tape.specs.Calls.{Pass, Call, move, start, stop, set-mark, reset-mark, rewind-to-mark, rewind-to-init, operate, clear, pass, open-pass, slice, backward, backward-to-mark, backward-mark-to-start, propagate-to-mark, propagate-mark-to-start, value-of, adjoint-of, is-live, list}
+use Rattle.tape.specs.Refusals.{last-serial}
 use Rattle.tape.specs.Steps.{run}
 use Rattle.tape.specs.Kept.{fresh, after}
-use Rattle.tape.specs.declared.errors.Refusal.the-variants.{Misshapen, NotLive, Detached, UnsoundEdge, ListingTooLong, OutOfTurn, UnfitSlice}
+use Rattle.tape.specs.declared.errors.Refusal.{Refusal}
+use Rattle.tape.specs.declared.errors.Refusal.the-variants.{Misshapen, Stale, Detached, UnsoundEdge, ListingTooLong, NeverIssued, OutOfTurn, UnfitSlice}
 use Rattle.tape.specs.declared.node.Handle.{Handle}
 use Rattle.tape.specs.declared.tape.Walk.the-variants.{Open}
 
@@ -210,7 +212,7 @@ P8 =
       answers =
           done ∷ recorded (float 3) (first 0) ∷ done ∷ recorded (float 6) (handle 1 2) ∷ counted 2 ∷ counted 1 ∷ done
           ∷ recorded (float 2) (handle 1 3)
-          ∷ read-value (float 0) ∷ refused NotLive ∷ refused NotLive ∷ refused NotLive ∷ refused NotLive ∷ counted 0
+          ∷ read-value (float 0) ∷ refused Stale ∷ refused Stale ∷ refused Stale ∷ refused Stale ∷ counted 2
           ∷ counted 1 ∷ [];
       sights = adjoints (float 2 ∷ float 0 ∷ []) ∷ [];
     }
@@ -265,7 +267,7 @@ left-first = record {
 abbrev pub clearing : Row
 clearing = on-four (clear ∷ []) (done ∷ []) (adjoints (float 0 ∷ float 0 ∷ float 0 ∷ float 0 ∷ float 7 ∷ []) ∷ [])
 
--- plain numbers: read as they are, not live, and refused 4 as a root and where an adjoint is read
+-- plain numbers: read as they are, found to be numbers, and refused 4 as a root and where an adjoint is read
 abbrev pub plain-numbers : Row
 plain-numbers =
     let x = plain (float 5) in
@@ -286,7 +288,7 @@ own-child = record {
   sights = adjoints (float 7 ∷ float 7 ∷ float 1 ∷ []) ∷ [];
 }
 
--- three edges are refused 7, but after 3 for a root that is not live, and not where the walk does not reach them; a root
+-- three edges are refused 7, but after 3 for a stale root, and not where the walk does not reach them; a root
 -- that is a number is refused 4
 abbrev pub three-edges : Row
 three-edges = record {
@@ -295,7 +297,7 @@ three-edges = record {
   calls =
       pass (backward (node (handle 1 7))) ∷ pass (backward (node (handle 1 6))) ∷ pass (backward (plain (float 1)))
       ∷ pass (backward (node (handle 0 7))) ∷ [];
-  answers = refused UnsoundEdge ∷ refused NotLive ∷ refused Detached ∷ counted 0 ∷ [];
+  answers = refused UnsoundEdge ∷ refused Stale ∷ refused Detached ∷ counted 0 ∷ [];
   sights = adjoints (float 1 ∷ float 7 ∷ []) ∷ [];
 }
 
@@ -496,6 +498,86 @@ EverySlice =
     × Holds walk-of-one
     × Holds own-nodes
     × Holds whole-range
+
+-- ---- handles that are not live
+
+-- calls that read a handle, ask about it, and take it as a root and as both operands
+abbrev pub tries : Handle → List (Call floats)
+tries h =
+    let x = node h in
+    value-of x ∷ adjoint-of x ∷ is-live x ∷ pass (backward x) ∷ open-pass (backward-to-mark x) ∷ plus x x ∷ []
+
+-- what they answer: is_live this count, and each of the others this refusal
+abbrev pub met : Refusal → ℕ → List (Answer floats)
+met r k = refused r ∷ refused r ∷ counted k ∷ refused r ∷ refused r ∷ refused r ∷ []
+
+-- on four leaves of serials 1 to 4, with room for a fifth
+abbrev pub on-leaves : List (Call floats) → List (Answer floats) → List Float → Row
+on-leaves calls answers after = record {
+  before =
+      machine (state 4 0 true 5) (arrays (replicate 5 (float 7)) (replicate 5 (float 7)) (1 ∷ 2 ∷ 3 ∷ 4 ∷ 7 ∷ []) (0 ∷ 0 ∷ 0 ∷ 0 ∷ 7 ∷ []) (replicate 10 7) (replicate 10 (float 7)));
+  calls = calls;
+  answers = answers;
+  sights = adjoints after ∷ [];
+}
+
+-- there, a handle that is refused so
+abbrev pub refused-as : Refusal → ℕ → Handle → Row
+refused-as r k h = on-leaves (tries h) (met r k) (replicate 5 (float 7))
+
+-- serial 0, the next serial and the largest were given to no node so far, whatever the index
+abbrev pub never-given : Handle → Row
+never-given h = refused-as NeverIssued 3 h
+
+-- serials 1 to 4 were given out, and not to a node at this index, which may be past the length: garbage, refused 3
+abbrev pub given-elsewhere : Handle → Row
+given-elsewhere h = refused-as Stale 2 h
+
+-- the first operand that is not live decides, left before right; a right operand that is not used does not
+abbrev pub left-decides : Row
+left-decides =
+    let old = node (handle 4 4) in
+    let made-up = node (handle 1 5) in
+    on-leaves
+    (plus old made-up ∷ plus made-up old ∷ plus (node-at 0) made-up ∷ plus (node-at 0) old ∷ plus (plain (float 5)) made-up ∷ binary LEAF old made-up ∷ binary LEAF (plain (float 8)) made-up ∷ [])
+    (refused Stale ∷ refused NeverIssued ∷ refused NeverIssued ∷ refused Stale ∷ refused NeverIssued ∷ refused Stale ∷ recorded (float 8) (first 4) ∷ [])
+    (replicate 4 (float 7) ++ (float 0 ∷ []))
+
+-- 11 is for serials that were not given out so far: a made-up handle can come to be that of the next node, or stale
+abbrev pub given-later : Row
+given-later =
+    let next = node (handle 4 5) in
+    let elsewhere = node (handle 0 5) in
+    on-leaves
+    (value-of next ∷ value-of elsewhere ∷ leaf (float 8) ∷ value-of next ∷ value-of elsewhere ∷ [])
+    (refused NeverIssued ∷ refused NeverIssued ∷ recorded (float 8) (first 4) ∷ read-value (float 8) ∷ refused Stale ∷ [])
+    (replicate 4 (float 7) ++ (float 0 ∷ []))
+
+-- a tape that no calls left: a handle whose serial is not below the next one is live, if it is stored at its index
+abbrev pub live-first : Row
+live-first = record {
+  before = machine (state 1 0 true 3) (sevens 1);
+  calls = value-of (node (handle 0 7)) ∷ is-live (node (handle 0 7)) ∷ value-of (node (handle 0 3)) ∷ value-of (node (handle 0 2)) ∷ [];
+  answers = read-value (float 7) ∷ counted 1 ∷ refused NeverIssued ∷ refused Stale ∷ [];
+  sights = [];
+}
+
+-- Proved in proofs/Rows.antt
+abbrev pub EveryHandle : Type 0
+EveryHandle =
+    Holds (never-given (handle 0 0))
+    × Holds (never-given (handle 0 5))
+    × Holds (never-given (handle 0 last-serial))
+    × Holds (never-given (handle 4 0))
+    × Holds (never-given (handle 4 5))
+    × Holds (never-given (handle 9 5))
+    × Holds (given-elsewhere (handle 0 4))
+    × Holds (given-elsewhere (handle 1 1))
+    × Holds (given-elsewhere (handle 4 4))
+    × Holds (given-elsewhere (handle 9 1))
+    × Holds left-decides
+    × Holds given-later
+    × Holds live-first
 
 -- the header's numbers, where a listing of the rows has too few digits to tell. Proved in proofs/Rows.antt
 abbrev pub EveryText : Type 0

@@ -5,30 +5,32 @@ ghost use Rattle.tape.specs.Answers.{number};
 pub enum Refusal {
     Misshapen,
     UnknownOperation,
-    NotLive,
+    Stale,
     Detached,
     Full,
     SerialsSpent,
     UnsoundEdge,
     ListingTooLong,
+    NeverIssued,
     OutOfTurn,
     UnfitSlice,
 }
 
 impl Refusal {
-    // The refusal's number: 1 to 8, 12 or 13.
+    // The refusal's number: 1 to 8, 11, 12 or 13.
     pub fn number(self) -> u8
         ensures { λ x. ⌜ x ≡ number self ⌝ }
     {
         match self {
             Refusal::Misshapen => 1,
             Refusal::UnknownOperation => 2,
-            Refusal::NotLive => 3,
+            Refusal::Stale => 3,
             Refusal::Detached => 4,
             Refusal::Full => 5,
             Refusal::SerialsSpent => 6,
             Refusal::UnsoundEdge => 7,
             Refusal::ListingTooLong => 8,
+            Refusal::NeverIssued => 11,
             Refusal::OutOfTurn => 12,
             Refusal::UnfitSlice => 13,
         }

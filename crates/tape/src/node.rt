@@ -2,7 +2,7 @@
 use crate::errors::Refusal;
 use crate::tape::Tape;
 ghost use mathlib.Core.Path.{_≡_};
-ghost use Rattle.tape.specs.Handles.{lives, looked-up, usable-as};
+ghost use Rattle.tape.specs.Handles.{lives, never-issued, looked-up, usable-as};
 
 // How many nodes a tape has room for, so that a child's index fits 16 bits.
 pub const MOST_NODES: usize = 65_535;
@@ -24,7 +24,8 @@ pub enum Operand {
 // What a lookup finds behind a handle.
 pub enum Lookup {
     Live,
-    NotLive,
+    Stale,
+    NeverIssued,
 }
 
 // Whether a call may use a handle, or why it is refused.
@@ -40,14 +41,21 @@ impl Handle {
         serial: 0,
     };
 
-    // Whether the handle is live on a tape with these serials.
+    // Whether the handle is live on a tape with these serials and, if it is not, whether its serial was given out so
+    // far.
     pub fn lookup(self, tape: Tape, serial: &[u64]) -> Lookup
         ensures { λ x. ⌜ x ≡ looked-up tape (now (serial .entry)) self ⌝ }
     {
-        if self.lives(tape.length, serial) {
+        let lives = self.lives(tape.length, serial);
+        let unissued = self.never_issued(tape);
+        // Only what is not live is sorted by its serial.
+        if lives {
             return Lookup::Live;
         }
-        Lookup::NotLive
+        if unissued {
+            return Lookup::NeverIssued;
+        }
+        Lookup::Stale
     }
 
     // The same for a call that needs a live one: what is not live is refused, in this one place.
@@ -56,7 +64,8 @@ impl Handle {
     {
         match self.lookup(tape, serial) {
             Lookup::Live => Usable::Live,
-            Lookup::NotLive => Usable::Refused(Refusal::NotLive),
+            Lookup::Stale => Usable::Refused(Refusal::Stale),
+            Lookup::NeverIssued => Usable::Refused(Refusal::NeverIssued),
         }
     }
 
@@ -75,5 +84,18 @@ impl Handle {
         }
         let stored = serial[index];
         stored == self.serial
+    }
+
+    // Whether no node was given its serial so far.
+    fn never_issued(self, tape: Tape) -> bool
+        ensures { λ x. ⌜ x ≡ never-issued tape self ⌝ }
+    {
+        if self.serial == 0 {
+            return true;
+        }
+        if self.serial < tape.next {
+            return false;
+        }
+        true
     }
 }

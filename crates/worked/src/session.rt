@@ -253,11 +253,27 @@ fn node_of(answer: Recorded) -> Noted {
 }
 
 fn refused(refusal: Refusal) {
-    number(b"refused=", refusal.number() as u64);
+    text(b"refused=");
+    io::print_decimal(STDOUT_FILENO, refusal.number() as u64);
+    in_words(refusal);
+    text(b"\n");
+}
+
+// Which of the two, where a handle is not live.
+fn in_words(refusal: Refusal) {
+    match refusal {
+        Refusal::Stale => text(b" (stale handle)"),
+        Refusal::NeverIssued => text(b" (handle never issued)"),
+        _ => {}
+    }
 }
 
 fn number(name: &[u8], x: u64) {
-    io::write_all(STDOUT_FILENO, name);
+    text(name);
     io::print_decimal(STDOUT_FILENO, x);
-    io::write_all(STDOUT_FILENO, b"\n");
+    text(b"\n");
+}
+
+fn text(bytes: &[u8]) {
+    io::write_all(STDOUT_FILENO, bytes);
 }
