@@ -32,8 +32,8 @@ pub enum Passed {
     Refused(Refusal),
 }
 
-// Sets the root's adjoint to one and walks from it down to the first node. Refuses 1, 12, the root (3 or
-// 11, and 4 for a number), and 7.
+// Sets the root's adjoint to one and walks from it down to the first node. Refuses 1, 12, the root (3 or 11,
+// and 4 for a number), and 7.
 pub fn backward(
     tape: Tape,
     value: &[f64],

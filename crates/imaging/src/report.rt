@@ -21,6 +21,7 @@ use crate::spread::Spread;
 use crate::verdict::CELLS;
 use crate::verdict::Judged;
 use crate::verdict::Verdict;
+use tape::Refusal;
 use track::TURN;
 ghost use Prim.Native.Nat.{_≤_};
 
@@ -129,11 +130,13 @@ fn why_not(out: Out, verdict: Verdict, all: usize) -> Out {
 
 // Of a refusal, which of the two where a handle is not live.
 fn in_words(out: Out, refusal: usize) -> Out {
-    match refusal {
-        3 => out.text(b" (stale handle)"),
-        11 => out.text(b" (handle never issued)"),
-        _ => out,
+    if refusal == Refusal::Stale.number() as usize {
+        return out.text(b" (stale handle)");
     }
+    if refusal == Refusal::NeverIssued.number() as usize {
+        return out.text(b" (handle never issued)");
+    }
+    out
 }
 
 pub(crate) fn by_cells(out: Out, counts: [usize; CELLS]) -> Out {

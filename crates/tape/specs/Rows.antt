@@ -288,8 +288,8 @@ own-child = record {
   sights = adjoints (float 7 ∷ float 7 ∷ float 1 ∷ []) ∷ [];
 }
 
--- three edges are refused 7, but after 3 for a stale root, and not where the walk does not reach them; a root
--- that is a number is refused 4
+-- three edges are refused 7, but after 3 for a stale root, and not where the walk does not reach them; a root that
+-- is a number is refused 4
 abbrev pub three-edges : Row
 three-edges = record {
   before =
