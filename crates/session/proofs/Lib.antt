@@ -1,0 +1,2 @@
+-- `Scans` has the loops over bytes.
+mod Scans
