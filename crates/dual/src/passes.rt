@@ -171,7 +171,7 @@ pub fn propagate_mark_to_start(
     )
 }
 
-fn run(
+pub fn run(
     which: Pass,
     tape: Tape,
     value: &[f64],

@@ -3,16 +3,33 @@ use Prim.Native.Nat.{ℕ, suc, _-_}
 use mathlib.Core.Bool.{Bool, true, false, not, _&&_, cond}
 use mathlib.Core.List.{List, [], _∷_}
 use mathlib.Core.Option.{Option, none, some}
-use lib.Dec.{leb, eqb}
+use lib.Dec.{leb, ltb, eqb}
+use lib.Ieee.{binary64, ofBits}
 use lib.ListN.{length, getD, take, drop}
 use Rattle.text.specs.Numerals.{bytes}
 use Rattle.text.specs.Parsed.{read-hex, read-decimal}
 use Rattle.text.specs.declared.read.Parsed.{Parsed}
 use Rattle.text.specs.declared.read.Parsed.the-variants.{Number, NotANumber}
+use Rattle.tape.specs.Numbers.{floats}
+use Rattle.tape.specs.Machine.{Arrays, Machine, machine}
+use Rattle.tape.specs.Handles as machine-s
+use Rattle.tape.specs.Operations.{LEAF, NEGATE, SQRT}
+use Rattle.tape.specs.Answers.{Answer, refused}
+use Rattle.tape.specs.Calls as calls
+use Rattle.tape.specs.Steps.{step}
+use Rattle.tape.specs.declared.errors.Refusal.the-variants as refusal
+use Rattle.tape.specs.declared.node.Operand as operand
+use Rattle.tape.specs.declared.tape.Tape.{Tape}
+use Rattle.expr.specs.Operators.{nothing}
+use Rattle.dual.specs.Outcome.{pass-of}
+use Rattle.dual.specs.declared.passes.Pass as pass
 use Rattle.session.specs.Lines as paper
 use Rattle.session.specs.declared.reading.Source as source
 use Rattle.session.specs.declared.reading.Sourced as sourced
 use Rattle.session.specs.declared.reading.Line as code
+use Rattle.session.specs.declared.running.Call as call
+use Rattle.session.specs.declared.running.Move as move
+use Rattle.session.specs.declared.running.Ran as ran
 
 -- ---- bytes
 
@@ -150,3 +167,80 @@ line-of code.the-variants.Malformed = none
 
 abbrev pub reading : List ℕ → Option paper.Line
 reading line = line-of (read-line line)
+
+-- ---- running a line, as the code goes
+
+abbrev pub source-stands : ℕ → source.Source → Bool
+source-stands length (source.the-variants.Node index) = ltb index length
+source-stands length (source.the-variants.Number pattern) = true
+
+abbrev pub line-stands : ℕ → code.Line → Bool
+line-stands length (code.the-variants.Leaf pattern) = true
+line-stands length (code.the-variants.Op k left right) = source-stands length left && source-stands length right
+line-stands length (code.the-variants.Op7 left) = source-stands length left
+line-stands length (code.the-variants.Op10 left) = source-stands length left
+line-stands length code.the-variants.MarkSet = true
+line-stands length code.the-variants.MarkReset = true
+line-stands length code.the-variants.RewindMark = true
+line-stands length code.the-variants.RewindInit = true
+line-stands length code.the-variants.ClearAdj = true
+line-stands length (code.the-variants.PassBack root) = ltb root length
+line-stands length (code.the-variants.PassTomark root) = ltb root length
+line-stands length (code.the-variants.PassTostart root) = ltb root length
+line-stands length code.the-variants.PassRest = true
+line-stands length code.the-variants.Malformed = true
+
+-- the code's operand for an index, given the serials
+abbrev pub node-with : List ℕ → ℕ → operand.Operand
+node-with serials i = operand.the-variants.Node (record { index = i; serial = getD serials i 0 })
+
+abbrev pub number-with : ℕ → operand.Operand
+number-with pattern = operand.the-variants.Number (ofBits binary64 pattern)
+
+abbrev pub operand-with : List ℕ → source.Source → operand.Operand
+operand-with serials (source.the-variants.Node index) = node-with serials index
+operand-with serials (source.the-variants.Number pattern) = number-with pattern
+
+abbrev pub call-with : List ℕ → code.Line → call.Call
+call-with serials (code.the-variants.Leaf pattern) =
+    call.the-variants.Record LEAF (number-with pattern) (number-with 0)
+call-with serials (code.the-variants.Op k left right) =
+    call.the-variants.Record k (operand-with serials left) (operand-with serials right)
+call-with serials (code.the-variants.Op7 left) =
+    call.the-variants.Record NEGATE (operand-with serials left) (number-with 0)
+call-with serials (code.the-variants.Op10 left) =
+    call.the-variants.Record SQRT (operand-with serials left) (number-with 0)
+call-with serials code.the-variants.MarkSet = call.the-variants.Move move.the-variants.SetMark
+call-with serials code.the-variants.MarkReset = call.the-variants.Move move.the-variants.ResetMark
+call-with serials code.the-variants.RewindMark = call.the-variants.Move move.the-variants.RewindToMark
+call-with serials code.the-variants.RewindInit = call.the-variants.Move move.the-variants.RewindToInit
+call-with serials code.the-variants.ClearAdj = call.the-variants.Clear
+call-with serials (code.the-variants.PassBack root) =
+    call.the-variants.Pass (pass.the-variants.Backward (node-with serials root))
+call-with serials (code.the-variants.PassTomark root) =
+    call.the-variants.Pass (pass.the-variants.BackwardToMark (node-with serials root))
+call-with serials (code.the-variants.PassTostart root) =
+    call.the-variants.Pass (pass.the-variants.BackwardMarkToStart (node-with serials root))
+call-with serials code.the-variants.PassRest = call.the-variants.Pass pass.the-variants.PropagateMarkToStart
+call-with serials code.the-variants.Malformed = call.the-variants.None
+
+abbrev pub move-of : move.Move → calls.Move
+move-of move.the-variants.SetMark = calls.set-mark
+move-of move.the-variants.ResetMark = calls.reset-mark
+move-of move.the-variants.RewindToMark = calls.rewind-to-mark
+move-of move.the-variants.RewindToInit = calls.rewind-to-init
+
+abbrev pub made : call.Call → Machine floats → Answer floats × Machine floats
+made (call.the-variants.Record op left right) M =
+    step (calls.operate op (machine-s.operand left) (machine-s.operand right) nothing) M
+made (call.the-variants.Move which) M = step (calls.move (move-of which)) M
+made call.the-variants.Clear M = step calls.clear M
+made (call.the-variants.Pass which) M = step (calls.pass (pass-of which)) M
+made call.the-variants.None M = (refused refusal.Malformed, M)
+
+-- of an answer nothing but its number is kept
+abbrev pub told : Answer floats × Machine floats → ℕ × Machine floats
+told x = (x .0 .number, x .1)
+
+abbrev pub ran-as : ran.Ran → Arrays floats → ℕ × Machine floats
+ran-as x A = (x .number, machine (x .tape) A)

@@ -1,2 +1,3 @@
 // Session files.
 mod reading;
+mod running;

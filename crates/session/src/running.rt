@@ -1,8 +1,10 @@
-// One line of a session file, run: the call that it names, made on the tape.
+// One line of a session file, run: the call that it names is made on the tape.
 use crate::reading::Line;
 use crate::reading::Source;
 use dual::Cleared;
+use dual::Pass;
 use dual::Passed;
+use expr::LEAF;
 use expr::NEGATE;
 use expr::Recorded;
 use expr::SQRT;
@@ -13,25 +15,39 @@ use tape::Operand;
 use tape::Refusal;
 use tape::Tape;
 ghost use mathlib.Core.Path.{_≡_};
-ghost use lib.Dec.{ltb};
 ghost use lib.Ieee.{binary64, nanBits, ofBits};
-ghost use lib.ListN.{getD};
-ghost use Rattle.tape.specs.Machine.{Arrays, machine, lent-before, lent-after};
 ghost use Rattle.tape.specs.Numbers.{floats};
-ghost use Rattle.tape.specs.Handles.{operand as tape·operand};
-ghost use Rattle.tape.specs.Answers.{outcome as moved-outcome};
-ghost use Rattle.tape.specs.Calls.{operate};
+ghost use Rattle.tape.specs.Machine.{Arrays, machine, lent-before, lent-after};
+ghost use Rattle.tape.specs.Answers.{number, outcome as moved-outcome};
+ghost use Rattle.tape.specs.Calls.{move};
 ghost use Rattle.tape.specs.Steps.{step};
-ghost use Rattle.expr.specs.Operators.{nothing};
 ghost use Rattle.expr.specs.Outcome.{outcome as recorded-outcome};
 ghost use Rattle.dual.specs.Outcome.{cleared-outcome, pass-outcome};
 ghost use Rattle.session.specs.Session.{run-read};
-ghost use Rattle.session.specs.Inner.{line-of, source-stands, line-stands, operand-with, handle-with, told, ran-as, carried-out};
+ghost use Rattle.session.specs.Inner.{line-of, source-stands, line-stands, node-with, operand-with, call-with, move-of, made, told, ran-as};
 
 // What a line came to: 0 or the number of its refusal, and the state after it.
 pub(crate) struct Ran {
     pub number: u8,
     pub tape: Tape,
+}
+
+// The call that a line names.
+pub(crate) enum Call {
+    Record(u8, Operand, Operand),
+    Move(Move),
+    Clear,
+    Pass(Pass),
+    // The line is malformed.
+    None,
+}
+
+// The moves that a line can name.
+pub(crate) enum Move {
+    SetMark,
+    ResetMark,
+    RewindToMark,
+    RewindToInit,
 }
 
 // Runs a line. An index not below the length is refused 3, before any handle is made.
@@ -49,14 +65,119 @@ pub(crate) fn run_line(
         ran-as x (lent-after value adjoint serial count child partial)
         ≡ told (run-read (line-of line) (machine tape (lent-before value adjoint serial count child partial))) ⌝ }
 {
-    if !line.stands(tape.length) {
+    if !stands(line, tape.length) {
         return refused(Refusal::Stale, tape);
     }
-    carry_out(line, tape, value, adjoint, serial, count, child, partial)
+    let call = call_of(line, &*serial);
+    make(call, tape, value, adjoint, serial, count, child, partial)
 }
 
-fn carry_out(
-    line: Line,
+// ---- the call that a line names
+
+// Whether each index that a line names is below the length.
+fn stands(line: Line, length: usize) -> bool
+    ensures { λ x. ⌜ x ≡ line-stands length line ⌝ }
+{
+    match line {
+        Line::Leaf(_) => true,
+        Line::Op(_, left, right) => is_below(left, length) & is_below(right, length),
+        Line::Op7(left) => is_below(left, length),
+        Line::Op10(left) => is_below(left, length),
+        Line::MarkSet => true,
+        Line::MarkReset => true,
+        Line::RewindMark => true,
+        Line::RewindInit => true,
+        Line::ClearAdj => true,
+        Line::PassBack(root) => root < length,
+        Line::PassTomark(root) => root < length,
+        Line::PassTostart(root) => root < length,
+        Line::PassRest => true,
+        Line::Malformed => true,
+    }
+}
+
+fn is_below(source: Source, length: usize) -> bool
+    ensures { λ x. ⌜ x ≡ source-stands length source ⌝ }
+{
+    match source {
+        Source::Node(index) => index < length,
+        Source::Number(_) => true,
+    }
+}
+
+fn call_of(line: Line, serial: &[u64]) -> Call
+    ensures { λ x. ⌜ x ≡ call-with (now (serial .entry)) line ⌝ }
+{
+    match line {
+        Line::Leaf(bits) => Call::Record(LEAF, Operand::Number(float_of(bits)), UNUSED),
+        Line::Op(op, left, right) => {
+            Call::Record(op, operand(left, serial), operand(right, serial))
+        }
+        Line::Op7(left) => Call::Record(NEGATE, operand(left, serial), UNUSED),
+        Line::Op10(left) => Call::Record(SQRT, operand(left, serial), UNUSED),
+        Line::MarkSet => Call::Move(Move::SetMark),
+        Line::MarkReset => Call::Move(Move::ResetMark),
+        Line::RewindMark => Call::Move(Move::RewindToMark),
+        Line::RewindInit => Call::Move(Move::RewindToInit),
+        Line::ClearAdj => Call::Clear,
+        Line::PassBack(root) => Call::Pass(Pass::Backward(node_at(root, serial))),
+        Line::PassTomark(root) => Call::Pass(Pass::BackwardToMark(node_at(root, serial))),
+        Line::PassTostart(root) => { Call::Pass(Pass::BackwardMarkToStart(node_at(root, serial))) }
+        Line::PassRest => Call::Pass(Pass::PropagateMarkToStart),
+        Line::Malformed => Call::None,
+    }
+}
+
+// Stands where an operation uses no right operand.
+const UNUSED: Operand = Operand::Number(0.0);
+
+fn operand(source: Source, serial: &[u64]) -> Operand
+    ensures { λ x. ⌜ x ≡ operand-with (now (serial .entry)) source ⌝ }
+{
+    match source {
+        Source::Node(index) => node_at(index, serial),
+        Source::Number(bits) => Operand::Number(float_of(bits)),
+    }
+}
+
+// The handle of an index with the serial that stands there.
+fn node_at(index: usize, serial: &[u64]) -> Operand
+    ensures { λ x. ⌜ x ≡ node-with (now (serial .entry)) index ⌝ }
+{
+    if serial.len() <= index {
+        return Operand::Node(Handle { index, serial: 0 });
+    }
+    let stored = serial[index];
+    Operand::Node(Handle {
+        index,
+        serial: stored,
+    })
+}
+
+// f64::from_bits is not defined at the pattern of a NaN.
+fn float_of(bits: u64) -> f64
+    ensures { λ x. ⌜ x ≡ ofBits binary64 bits ⌝ }
+{
+    if is_nan(bits) {
+        return 0.0 / 0.0;
+    }
+    f64::from_bits(bits)
+}
+
+fn is_nan(bits: u64) -> bool
+    ensures { λ x. ⌜ x ≡ nanBits binary64 bits ⌝ }
+{
+    bits % SIGN > INFINITY
+}
+
+const SIGN: u64 = 0x8000_0000_0000_0000;
+
+const INFINITY: u64 = 0x7ff0_0000_0000_0000;
+
+// ---- the call, made
+
+fn make(
+    call: Call,
     tape: Tape,
     value: &mut [f64],
     adjoint: &mut [f64],
@@ -67,22 +188,94 @@ fn carry_out(
 ) -> Ran
     ensures { λ x. ⌜
         ran-as x (lent-after value adjoint serial count child partial)
-        ≡ told (carried-out line (machine tape (lent-before value adjoint serial count child partial))) ⌝ }
+        ≡ told (made call (machine tape (lent-before value adjoint serial count child partial))) ⌝ }
 {
-    match line {
-        Line::Leaf(bits) => record(tape, value, adjoint, serial, count, child, partial, 0, Operand::Number(float_of(bits)), Operand::Number(0.0)),
-        Line::Op(op, left, right) => record(tape, value, adjoint, serial, count, child, partial, op, operand(left, serial), operand(right, serial)),
-        Line::Op7(left) => record(tape, value, adjoint, serial, count, child, partial, NEGATE, operand(left, serial), Operand::Number(0.0)),
-        Line::Op10(left) => record(tape, value, adjoint, serial, count, child, partial, SQRT, operand(left, serial), Operand::Number(0.0)),
-        Line::MarkSet => moved(tape.set_mark()),
-        Line::MarkReset => moved(tape.reset_mark()),
-        Line::RewindMark => moved(tape.rewind_to_mark()),
-        Line::RewindInit => moved(tape.rewind_to_init()),
-        Line::ClearAdj => cleared(dual::clearing::reset_adjoints(tape, value, adjoint, serial, count, child, partial), tape),
-        Line::PassBack(root) => passed(dual::passes::backward(tape, value, adjoint, serial, count, child, partial, node_at(root, serial)), tape),
-        Line::PassTomark(root) => passed(dual::passes::backward_to_mark(tape, value, adjoint, serial, count, child, partial, node_at(root, serial)), tape),
-        Line::PassTostart(root) => passed(dual::passes::backward_mark_to_start(tape, value, adjoint, serial, count, child, partial, node_at(root, serial)), tape),
-        Line::PassRest => passed(dual::passes::propagate_mark_to_start(tape, value, adjoint, serial, count, child, partial), tape),
-        Line::Malformed => refused(Refusal::Malformed, tape),
+    match call {
+        Call::Record(op, left, right) => recorded(expr::recording::record(
+            tape,
+            value,
+            adjoint,
+            serial,
+            count,
+            child,
+            partial,
+            op,
+            left,
+            right,
+            Supplied::NONE,
+        )),
+        Call::Move(which) => moved(go(which, tape)),
+        Call::Clear => cleared(
+            dual::clearing::reset_adjoints(tape, value, adjoint, serial, count, child, partial),
+            tape,
+        ),
+        Call::Pass(which) => passed(
+            dual::passes::run(which, tape, value, adjoint, serial, count, child, partial),
+            tape,
+        ),
+        Call::None => refused(Refusal::Malformed, tape),
+    }
+}
+
+fn go(which: Move, tape: Tape) -> Moved
+    ensures { λ x. ⌜ ((A : Arrays floats) → moved-outcome x A ≡ step (move (move-of which)) (machine tape A)) ⌝ }
+{
+    match which {
+        Move::SetMark => tape.set_mark(),
+        Move::ResetMark => tape.reset_mark(),
+        Move::RewindToMark => tape.rewind_to_mark(),
+        Move::RewindToInit => tape.rewind_to_init(),
+    }
+}
+
+fn recorded(answer: Recorded) -> Ran
+    ensures { λ x. ⌜ ((A : Arrays floats) → ran-as x A ≡ told (recorded-outcome answer A)) ⌝ }
+{
+    match answer {
+        Recorded::Node(_, _, tape) => done(tape),
+        Recorded::Detached(_, tape) => done(tape),
+        Recorded::Refused(refusal, tape) => refused(refusal, tape),
+    }
+}
+
+fn moved(answer: Moved) -> Ran
+    ensures { λ x. ⌜ ((A : Arrays floats) → ran-as x A ≡ told (moved-outcome answer A)) ⌝ }
+{
+    match answer {
+        Moved::Done(tape) => done(tape),
+        Moved::Refused(refusal, tape) => refused(refusal, tape),
+    }
+}
+
+fn cleared(answer: Cleared, tape: Tape) -> Ran
+    ensures { λ x. ⌜ ((A : Arrays floats) → ran-as x A ≡ told (cleared-outcome answer (machine tape A))) ⌝ }
+{
+    match answer {
+        Cleared::Done => done(tape),
+        Cleared::Refused(refusal) => refused(refusal, tape),
+    }
+}
+
+fn passed(answer: Passed, tape: Tape) -> Ran
+    ensures { λ x. ⌜ ((A : Arrays floats) → ran-as x A ≡ told (pass-outcome answer (machine tape A))) ⌝ }
+{
+    match answer {
+        Passed::Visited(_) => done(tape),
+        Passed::Refused(refusal) => refused(refusal, tape),
+    }
+}
+
+fn done(tape: Tape) -> Ran
+    ensures { λ x. ⌜ x ≡ record { number = 0; tape = tape } ⌝ }
+{
+    Ran { number: 0, tape }
+}
+
+fn refused(refusal: Refusal, tape: Tape) -> Ran
+    ensures { λ x. ⌜ x ≡ record { number = number refusal; tape = tape } ⌝ }
+{
+    Ran {
+        number: refusal.number(),
+        tape,
     }
 }
