@@ -1,6 +1,10 @@
--- `Reader` has the inverse of the lines' texts, by `Back` and `Only`; `Scans` and `Running` serve the functions.
+-- `Reader` has the inverse of the lines' texts, by `Back` and `Only`; `Scans`, `Made`, `Turns` and `Reported` serve the functions.
 mod Scans
+mod Made
+mod Turns
+mod Reported
 mod Bytes
 mod Back
 mod Only
 pub mod Reader
+pub mod Answered

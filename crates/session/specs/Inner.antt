@@ -1,5 +1,5 @@
 -- What the private functions of src/ promise. Only their proofs use it; the public promise speaks of `answered`.
-use Prim.Native.Nat.{ℕ, suc, _-_}
+use Prim.Native.Nat.{ℕ, suc, _-_, _<_}
 use mathlib.Core.Bool.{Bool, true, false, not, _&&_, cond}
 use mathlib.Core.List.{List, [], _∷_}
 use mathlib.Core.Option.{Option, none, some}
@@ -24,12 +24,14 @@ use Rattle.expr.specs.Operators.{nothing}
 use Rattle.dual.specs.Outcome.{pass-of}
 use Rattle.dual.specs.declared.passes.Pass as pass
 use Rattle.session.specs.Lines as paper
+use Rattle.session.specs.Session.{Ran, ended, stopped}
 use Rattle.session.specs.declared.reading.Source as source
 use Rattle.session.specs.declared.reading.Sourced as sourced
 use Rattle.session.specs.declared.reading.Line as code
 use Rattle.session.specs.declared.running.Call as call
 use Rattle.session.specs.declared.running.Move as move
 use Rattle.session.specs.declared.running.Ran as ran
+use Rattle.session.specs.declared.lines.Outcome as outcome
 
 -- ---- bytes
 
@@ -244,3 +246,19 @@ told x = (x .0 .number, x .1)
 
 abbrev pub ran-as : ran.Ran → Arrays floats → ℕ × Machine floats
 ran-as x A = (x .number, machine (x .tape) A)
+
+-- ---- the lines in turn, as the code goes
+
+-- how many bytes the first line has
+abbrev pub line-length : List ℕ → ℕ
+line-length [] = 0
+line-length (byte ∷ bytes) = cond (eqb byte 10) 1 (suc (line-length bytes))
+
+abbrev pub came-to : outcome.Outcome → Arrays floats → Ran
+came-to (outcome.the-variants.Ended t) A = ended (machine t A)
+came-to (outcome.the-variants.Stopped number line) A = stopped number line
+
+-- a line's number leaves the refusal's number its place
+abbrev pub SmallLine : outcome.Outcome → Type 0
+SmallLine (outcome.the-variants.Ended t) = Unit {0}
+SmallLine (outcome.the-variants.Stopped number line) = line < 16777216

@@ -9,13 +9,13 @@ use expr::NEGATE;
 use expr::Recorded;
 use expr::SQRT;
 use expr::Supplied;
+use listing::float_of;
 use tape::Handle;
 use tape::Moved;
 use tape::Operand;
 use tape::Refusal;
 use tape::Tape;
 ghost use mathlib.Core.Path.{_≡_};
-ghost use lib.Ieee.{binary64, nanBits, ofBits};
 ghost use Rattle.tape.specs.Numbers.{floats};
 ghost use Rattle.tape.specs.Machine.{Arrays, machine, lent-before, lent-after};
 ghost use Rattle.tape.specs.Answers.{number, outcome as moved-outcome};
@@ -153,26 +153,6 @@ fn node_at(index: usize, serial: &[u64]) -> Operand
         serial: stored,
     })
 }
-
-// f64::from_bits is not defined at the pattern of a NaN.
-fn float_of(bits: u64) -> f64
-    ensures { λ x. ⌜ x ≡ ofBits binary64 bits ⌝ }
-{
-    if is_nan(bits) {
-        return 0.0 / 0.0;
-    }
-    f64::from_bits(bits)
-}
-
-fn is_nan(bits: u64) -> bool
-    ensures { λ x. ⌜ x ≡ nanBits binary64 bits ⌝ }
-{
-    bits % SIGN > INFINITY
-}
-
-const SIGN: u64 = 0x8000_0000_0000_0000;
-
-const INFINITY: u64 = 0x7ff0_0000_0000_0000;
 
 // ---- the call, made
 
