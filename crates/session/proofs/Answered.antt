@@ -22,3 +22,7 @@ overlong R session lent h = rw (lt-ltb most-session (length session) h)
 
 pub in-turn : (R : Reader) (session lent : List ℕ) → length session ≤ most-session → reported (run-lines reading 1 (lines session) started) lent ≡ answered R session lent
 in-turn R session lent h = ap (λ read. reported (run-lines read 1 (lines session) started) lent) (reads-alike R) ∙ sym (rw (le-ltb most-session (length session) h))
+
+-- so any two answer alike
+pub alike : (R : Reader) (session lent : List ℕ) → answered reader session lent ≡ answered R session lent
+alike R session lent = ap (λ read. cond (ltb most-session (length session)) (refusal (number Malformed) 0, lent) (reported (run-lines read 1 (lines session) started) lent)) (reads-alike R)

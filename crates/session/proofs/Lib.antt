@@ -8,3 +8,4 @@ mod Back
 mod Only
 pub mod Reader
 pub mod Answered
+pub mod Rows

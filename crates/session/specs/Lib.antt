@@ -2,4 +2,5 @@
 -- `Rows` has worked rows; `Inner` serves the private functions, and no public promise uses it.
 pub mod Lines
 pub mod Session
+pub mod Rows
 pub mod Inner
