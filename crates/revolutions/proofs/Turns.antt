@@ -61,7 +61,7 @@ module _ {N : Numbers} (M : Machine N) (m : ℕ) (values adjoints : List (N .Num
       swept p M m m values adjoints (set adjoints (h .index) (N .one)) (low ++ high) high held (held .marked) past (omega arith) first (length-set adjoints (h .index) (N .one)) u
 
   -- from the mark to the start, with nothing past the mark
-  to-start : (edges : List (List (Edge N))) → length edges ≡ m → length values ≡ m → Holds M m values adjoints edges → step (pass propagate-mark-to-start) M .0 .number ≡ 0
+  pub to-start : (edges : List (List (Edge N))) → length edges ≡ m → length values ≡ m → Holds M m values adjoints edges → step (pass propagate-mark-to-start) M .0 .number ≡ 0
       → Holds (step (pass propagate-mark-to-start) M .1) m values (walk 0 edges adjoints) edges
   to-start edges l k held u =
       let end : M .state .mark ≡ M .state .length = held .marked ∙ sym k ∙ held .long in
@@ -86,7 +86,7 @@ module _ {N : Numbers} (m : ℕ) (models : List (N .Number)) (edges : List (List
       rw (accepted (move rewind-to-mark) L w .carries, e) (rewound L m models owns (walk m (p .nodes) (s ++ seed p)) edges (p .nodes) v l back)
 
   -- revolution by revolution
-  all-turned : (rs : List (Revolution N)) (M : Machine N) (s : List (N .Number)) → Holds M m models s edges → AtOrPast m rs → Unrefused (run (revolution-calls rs) M .0)
+  pub all-turned : (rs : List (Revolution N)) (M : Machine N) (s : List (N .Number)) → Holds M m models s edges → AtOrPast m rs → Unrefused (run (revolution-calls rs) M .0)
       → Holds (after (revolution-calls rs) M) m models (folded-all (map (part m models) (map (resolve-revolution m) rs)) s) edges
   all-turned [] M s held past u = held
   all-turned (r ∷ rs) M s held (past, later) u =
@@ -111,7 +111,7 @@ summed resolved =
     one-by-one (map (λ n. n .edges) first) (map (part (length values) values) (resolved .revolutions))
 
 -- after clearing, every adjoint of the tape is zero
-wiped : {N : Numbers} (M : Machine N) (mark : ℕ) (values adjoints : List (N .Number)) (edges : List (List (Edge N))) → Holds M mark values adjoints edges → step clear M .0 .number ≡ 0
+pub wiped : {N : Numbers} (M : Machine N) (mark : ℕ) (values adjoints : List (N .Number)) (edges : List (List (Edge N))) → Holds M mark values adjoints edges → step clear M .0 .number ≡ 0
     → Holds (step clear M .1) mark values (replicate (length values) (N .nought)) edges
 wiped {N} M mark values adjoints edges held u =
     let n = M .state .length in

@@ -9,3 +9,4 @@ mod Only
 pub mod Reader
 pub mod Answered
 pub mod Rows
+pub mod Proved

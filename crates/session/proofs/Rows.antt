@@ -1,24 +1,59 @@
 -- By computation, with the reader that computes.
-use Prim.Native.Nat.{ℕ}
-use mathlib.Core.Path.{_≡_, refl, sym, ap, _∙_}
-use mathlib.Core.List.{List, _++_}
+use Prim.Native.Nat.{ℕ, _+_, _*_}
+use mathlib.Core.Path.{_≡_, refl, sym, _∙_}
+use mathlib.Core.List.{List, [], _∷_, _++_}
+use lib.Ieee.{lt, le, mul, add, ofBits, toBits}
+use lib.ListN.{length}
 use Rattle.tape.specs.Steps.{step}
-use Rattle.session.specs.Lines.{Reader}
 use Rattle.session.specs.Session.{answered}
-use Rattle.session.specs.Rows.{Row, Holds, sevens, empty, second-malformed, EveryRow}
+use Rattle.session.specs.Rows as rows
+use Rattle.session.specs.Rows.{sevens, line-feeds, Refuses, Lists, Each, EveryRow}
 use Rattle.session.proofs.Reader.{reader}
 use Rattle.session.proofs.Answered.{alike}
 
-holds : (r : Row) → answered reader (r .session) (sevens (r .room)) ≡ (r .number, r .listing ++ sevens (r .stay)) → Holds r
-holds r e R = sym (alike R (r .session) (sevens (r .room))) ∙ e
+refuses : (number line : ℕ) (session : List ℕ) → answered reader session (sevens 300) ≡ (number * 16777216 + line, sevens 300) → Refuses number line session
+refuses number line session e R = sym (alike R session (sevens 300)) ∙ e
 
-empty-so : Holds empty
-unfolding step
-empty-so = holds empty refl
+lists : (listed session : List ℕ) → answered reader session (listed ++ sevens 2) ≡ (length listed, listed ++ sevens 2) → Lists listed session
+lists listed session e R = sym (alike R session (listed ++ sevens 2)) ∙ e
 
-second-so : Holds second-malformed
+-- the same of a list of them
+abbrev Computed : ℕ → ℕ → List (List ℕ) → Type 0
+Computed number line [] = Unit {0}
+Computed number line (session ∷ sessions) = (answered reader session (sevens 300) ≡ (number * 16777216 + line, sevens 300)) × Computed number line sessions
+
+each : (number line : ℕ) (sessions : List (List ℕ)) → Computed number line sessions → Each (Refuses number line) sessions
+each number line [] es = tt
+each number line (session ∷ sessions) (e, es) = (refuses number line session e, each number line sessions es)
+
+malformed : Each (Refuses 9 1) rows.malformed
+malformed = each 9 1 rows.malformed (refl, (refl, (refl, (refl, (refl, (refl, (refl, (refl, (refl, (refl, (refl, (refl, (refl, (refl, (refl, (refl, (refl, (refl, (refl, (refl, (refl, (refl, (refl, (refl, (refl, (refl, (refl, (refl, (refl, (refl, (refl, tt)))))))))))))))))))))))))))))))
+
+stale : Each (Refuses 3 2) rows.stale
+unfolding step ofBits
+stale = each 3 2 rows.stale (refl, (refl, (refl, (refl, tt))))
+
+second-malformed : Each (Refuses 9 2) rows.second-malformed
+unfolding step ofBits
+second-malformed = each 9 2 rows.second-malformed (refl, (refl, tt))
+
+tie : Lists rows.tie-listed rows.tie
+unfolding step lt le mul add ofBits toBits
+tie = lists rows.tie-listed rows.tie refl
+
+empty : Lists rows.empty-listed []
 unfolding step
-second-so = holds second-malformed refl
+empty = lists rows.empty-listed [] refl
 
 pub every-row : EveryRow
-every-row = record { empty = empty-so; second-malformed = second-so }
+unfolding step
+every-row = record {
+  malformed = malformed;
+  stale = stale;
+  second-malformed = second-malformed;
+  all-read = refuses 9 1 (line-feeds 65536) refl;
+  overlong = refuses 9 0 (line-feeds 65537) refl;
+  empty = empty;
+  tie = tie;
+  no-room = λ R. sym (alike R [] (sevens 23)) ∙ refl;
+}
