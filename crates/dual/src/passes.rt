@@ -171,6 +171,7 @@ pub fn propagate_mark_to_start(
     )
 }
 
+// Runs a pass, whichever of the five it is. Refuses as that one does.
 pub fn run(
     which: Pass,
     tape: Tape,
