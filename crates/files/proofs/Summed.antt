@@ -19,11 +19,9 @@ use Rattle.tape.specs.Passes.{Unrefused}
 use Rattle.tape.proofs.Passes.{accepted}
 use Rattle.revolutions.specs.Revolutions.{Session, Node, nodes, recordings, revolution-calls, calls, resolve-operation, resolve, long-tape, AtOrPast, RunsAs}
 use Rattle.revolutions.proofs.Chosen.{nothing-cut}
-use Rattle.revolutions.proofs.Held.{Holds, started, mark-set}
-use Rattle.revolutions.proofs.Recorded.{recorded}
 use Rattle.revolutions.proofs.Runs.{after-append, unrefused-parts, session-over}
 use Rattle.revolutions.proofs.Sum.{demand-3}
-use Rattle.revolutions.proofs.Turns.{as-many, wiped, all-turned, to-start}
+use Rattle.revolutions.proofs.Turns.{first, models, as-many, played}
 use Rattle.session.specs.Session.{zeros}
 use Rattle.session.specs.Session as session
 use Rattle.files.specs.Files.{left-by}
@@ -32,51 +30,6 @@ use Rattle.files.proofs.Called.{all-run, session-in, its-calls, resolve
 use Rattle.files.proofs.Refused.{listed-so}
 use Rattle.files.proofs.Runs.{start-answers}
 use Rattle.files.proofs.Texts.{file-runs}
-
--- ---- what a session of calls leaves of its model
-
--- these values, on an active tape of no other node, with the mark behind them
-record Still (L : Machine floats) (values : List (floats .Number)) : Type 0 where
-  active : L .state .active ≡ true
-  marked : L .state .mark ≡ length values
-  long : L .state .length ≡ length values
-  value : take (L .state .length) (L .lent .value) ≡ values
-
-module _ (s : Session floats) where
-  abbrev first : List (Node floats)
-  first = nodes 0 [] [] (map (resolve-operation 0) (s .model))
-
-  abbrev models : List (floats .Number)
-  models = map (λ n. n .value) first
-
-  abbrev edges : List (List (Edge floats))
-  edges = map (λ n. n .edges) first
-
-  abbrev m : ℕ
-  m = length (s .model)
-
-  still : (M : Machine floats) → AtOrPast m (s .revolutions) → Unrefused (run (calls s) M .0) → Still (after (calls s) M) models
-  still M past (starts, u) =
-      let os = recordings (s .model) in
-      let rs = revolution-calls (s .revolutions) in
-      let last = pass propagate-mark-to-start ∷ [] in
-      let M₀ = step (move start) M .1 in
-      let M₁ = after os M₀ in
-      let M₂ = step (move set-mark) M₁ .1 in
-      let M₃ = step clear M₂ .1 in
-      let (records, (marks, (clears, more))) = unrefused-parts os (move set-mark ∷ clear ∷ rs ++ last) M₀ u in
-      let (turns, (walks, _)) = unrefused-parts rs last M₃ more in
-      let values : length models ≡ m = length-map first (λ n. n .value) ∙ as-many s in
-      let noughts = replicate m (floats .nought) in
-      let h₀ : Holds M₀ 0 [] [] [] = rw (accepted (move start) M starts .carries) (started (M .state) (M .lent)) in
-      let h₁ = recorded 0 0 [] refl (s .model) M₀ [] [] [] h₀ records in
-      let h₂ : Holds M₂ (length models) models noughts edges = rw (accepted (move set-mark) M₁ marks .carries) (mark-set M₁ h₁) in
-      let h₃ : Holds M₃ m models noughts edges = rw values at (wiped M₂ (length models) models noughts edges h₂ clears) in
-      let nodes : length edges ≡ m = length-map first (λ n. n .edges) ∙ as-many s in
-      let h₄ = all-turned m models edges values nodes (s .revolutions) M₃ noughts h₃ past turns in
-      let end : after (calls s) M ≡ step (pass propagate-mark-to-start) (after rs M₃) .1 = after-append os (move set-mark ∷ clear ∷ rs ++ last) M₀ ∙ after-append rs last M₃ in
-      let h₅ = to-start (after rs M₃) m models _ edges nodes values h₄ walks in
-      rw end (record { active = h₅ .active; marked = h₅ .marked ∙ sym values; long = sym (h₅ .long); value = h₅ .value })
 
 -- ---- listings that show the same
 
@@ -98,12 +51,13 @@ lists-model : (s : Session floats) (M : Machine floats) → RunsAs s (calls s) M
 lists-model s M r =
     let L = after (calls s) M in
     let B = floats .blank in
-    let held = still s M (r .roots) (r .unrefused) in
-    let values : length (models s) ≡ m s = length-map (first s) (λ n. n .value) ∙ as-many s in
+    let held = played s M (r .roots) (r .unrefused) in
+    let values : length (models s) ≡ length (s .model) = length-map (first s) (λ n. n .value) ∙ as-many s in
+    let long : L .state .length ≡ length (models s) = sym (held .long) in
     let at : (i : ℕ) → i < L .state .length → getD (L .lent .value) i B ≡ getD (models s) i B = λ i h. sym (getD-take (L .state .length) (L .lent .value) i B h) ∙ ap (λ xs. getD xs i B) (held .value) in
     let summed : (i : ℕ) → i < L .state .length → getD (L .lent .adjoint) i B ≡ getD (long-tape (resolve s)) i B =
-    λ i h. sym (getD-take (m s) (L .lent .adjoint) i B (omega (arith, held .long, values))) ∙ ap (λ xs. getD xs i B) (demand-3 .sum-over-revolutions s (calls s) M r) in
-    listing-alike L (model-tape (resolve s)) (held .long) (held .marked) (held .active) (λ i h. line-alike (L .lent) (model-tape (resolve s) .lent) i (at i h) (summed i h))
+    λ i h. sym (getD-take (length (s .model)) (L .lent .adjoint) i B (omega (arith, long, values))) ∙ ap (λ xs. getD xs i B) (demand-3 .sum-over-revolutions s (calls s) M r) in
+    listing-alike L (model-tape (resolve s)) long (held .marked ∙ sym values) (held .active) (λ i h. line-alike (L .lent) (model-tape (resolve s) .lent) i (at i h) (summed i h))
 
 -- ---- a file
 
