@@ -12,18 +12,18 @@ use Rattle.tape.specs.Listing.{listing}
 use Rattle.tape.specs.Steps.{step}
 use Rattle.tape.proofs.Steps.{not-some}
 use Rattle.session.specs.Lines.{Line}
-use Rattle.session.specs.Session.{Ran, ended, stopped, started, most-session}
+use Rattle.session.specs.Session.{Outcome, ended, stopped, started, most-session}
 use Rattle.files.specs.Summed.{file-lines, file, AllWithin}
 use Rattle.files.specs.Example.{three-listed, swapped-listed, three-session, swapped-session, Lists, Example}
 use Rattle.files.proofs.Refused.{lists-so}
 use Rattle.files.proofs.Texts.{run-all, file-runs}
 
 -- what a run leaves to be listed
-abbrev shown : Ran → Option (List ℕ)
+abbrev shown : Outcome → Option (List ℕ)
 shown (ended M) = some (listing M)
 shown (stopped number line) = none
 
-left : (r : Ran) (text : List ℕ) → shown r ≡ some text → (M : Machine floats) × (r ≡ ended M) × (listing M ≡ text)
+left : (r : Outcome) (text : List ℕ) → shown r ≡ some text → (M : Machine floats) × (r ≡ ended M) × (listing M ≡ text)
 left (ended M) text e = (M, refl, Option·some-injective _ _ e)
 left (stopped number line) text e = not-some (sym e)
 

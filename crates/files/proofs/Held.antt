@@ -28,7 +28,7 @@ use Rattle.tape.proofs.Tests.{by-test, is-false, Fit}
 use Rattle.expr.specs.Operators.{nothing}
 use Rattle.revolutions.proofs.Standing.{written-alike, length-cleared}
 use Rattle.session.specs.Lines.{n, Line, leaf, op, op-7, op-10, mark-set, mark-reset, rewind-mark, rewind-init, clear-adj, pass-back, pass-tomark, pass-tostart, pass-rest}
-use Rattle.session.specs.Session.{call, room, started}
+use Rattle.session.specs.Session.{standing, call, session-nodes, started}
 use Rattle.files.specs.Files.{LiveBelow}
 
 -- ---- serials
@@ -46,33 +46,28 @@ numbered-kept M _ (records v es r s) is =
 
 module _ (M : Machine floats) (is : Numbered M) where
   -- the handle of an index with the serial that stands there
-  abbrev standing : ℕ → Handle
-  standing i = record { index = i; serial = getD (M .lent .serial) i 0 }
+  pub alive : (i : ℕ) → i < M .state .length → live M (standing M i) ≡ true
+  alive i h = lives-so _ (M .lent .serial) (standing M i) (record { below = h; serial = is i h; same = refl })
 
-  pub alive : (i : ℕ) → i < M .state .length → live M (standing i) ≡ true
-  alive i h = lives-so _ (M .lent .serial) (standing i) (record { below = h; serial = is i h; same = refl })
-
-  lives-below : (i : ℕ) → live M (standing i) ≡ ltb i (M .state .length)
+  lives-below : (i : ℕ) → live M (standing M i) ≡ ltb i (M .state .length)
   lives-below i = either (decLt i (M .state .length)) where
-    either : Dec (i < M .state .length) → live M (standing i) ≡ ltb i (M .state .length)
+    either : Dec (i < M .state .length) → live M (standing M i) ≡ ltb i (M .state .length)
     either (yes l) = alive i l ∙ sym (lt-ltb i (M .state .length) l)
-    either (no g) = is-false (live M (standing i)) (λ t. g (lives-parts (M .state .length) (M .lent .serial) (standing i) t .below)) ∙ sym (le-ltb i (M .state .length) (omega arith))
+    either (no g) = is-false (live M (standing M i)) (λ t. g (lives-parts (M .state .length) (M .lent .serial) (standing M i) t .below)) ∙ sym (le-ltb i (M .state .length) (omega arith))
 
 abbrev handle-of : Operand floats → Handle
 handle-of (plain x) = record { index = 0; serial = 0 }
 handle-of (node h) = h
 
 pub live-below : LiveBelow
-live-below A cs i h e =
-    let M = after cs (fresh A) in
-    subst (λ k. live M k ≡ ltb i (M .state .length)) (ap handle-of e) (lives-below M (kept Numbered numbered-kept cs (fresh A) (λ i h. absurd (omega arith))) i)
+live-below A cs i = lives-below (after cs (fresh A)) (kept Numbered numbered-kept cs (fresh A) (λ i h. absurd (omega arith))) i
 
 -- ---- a session's machine
 
 -- its shape, after j lines
 pub record Shaped (j : ℕ) (M : Machine floats) : Type 0 where
   pub fit : Fit M
-  pub large : capacity (M .lent) ≡ room
+  pub large : capacity (M .lent) ≡ session-nodes
   pub over : Over M
   pub active : M .state .active ≡ true
   pub next : M .state .next ≤ 1 + j

@@ -11,7 +11,7 @@ use Rattle.tape.specs.Machine.{Machine}
 use Rattle.tape.specs.Listing.{listing}
 use Rattle.tape.proofs.Tests.{by-test}
 use Rattle.listing.proofs.Lines.{lines-length, listing-length}
-use Rattle.session.specs.Session.{room}
+use Rattle.session.specs.Session.{session-nodes}
 use Rattle.files.specs.Files.{most-listing}
 
 -- one place more for the last digit
@@ -25,7 +25,7 @@ four-digits i h =
     let three = one-more 17 (i / 10) 2 (λ _. two) (omega arith) in
     omega (arith, length-digits 10 (places 19 i) i, one-more 18 i 3 (λ _. three) (omega arith))
 
-pub longest : (M : Machine floats) → M .state .length ≤ room → M .state .mark ≤ M .state .length → length (listing M) ≤ most-listing
+pub longest : (M : Machine floats) → M .state .length ≤ session-nodes → M .state .mark ≤ M .state .length → length (listing M) ≤ most-listing
 longest M l m =
     omega (
       arith,

@@ -32,7 +32,7 @@ use Rattle.revolutions.proofs.Answered.{demand-1}
 use Rattle.revolutions.proofs.ToRun.{moves-so}
 use Rattle.session.specs.Lines.{n, c, Line, leaf, op, op-7, op-10, mark-set, mark-reset, rewind-mark, rewind-init, clear-adj, pass-back, pass-tomark, pass-tostart, pass-rest, Within, Reader}
 use Rattle.session.specs.Lines as line
-use Rattle.session.specs.Session.{operand, call, indexes-of, stands, run-read, lines, onto, Ran, ended, stopped, run-lines, room, started, most-session, refusal, reported, answered}
+use Rattle.session.specs.Session.{operand, call, indexes-of, stands, run-read, lines, onto, Outcome, ended, stopped, run-lines, session-nodes, started, most-session, least-refusal, refusal, reported, answered}
 use Rattle.files.specs.Files.{session-calls, left-by, read-at, met, most-listing, Says, EveryAnswer}
 use Rattle.files.proofs.Runs.{follows, run-is-run}
 use Rattle.files.proofs.Held.{alive, Held, held-on, held-first}
@@ -44,7 +44,7 @@ use Rattle.files.proofs.Longest.{longest}
 pub data Meets (M : Machine floats) (read : Option Line) : ℕ → Type 0 where
   fine : Meets M read 0
   three : (l : Line) → read ≡ some l → stands M l ≡ false → Meets M read 3
-  full : M .state .length ≡ room → Meets M read 5
+  full : (l : Line) → read ≡ some l → refusal-of (call M l) M ≡ some Full → M .state .length ≡ session-nodes → Meets M read 5
   nine : read ≡ none → Meets M read 9
 
 module _ {j : ℕ} {M : Machine floats} (h : Held j M) (few : j ≤ most-session) where
@@ -71,12 +71,12 @@ module _ {j : ℕ} {M : Machine floats} (h : Held j M) (few : j ≤ most-session
     answers-so d e = subst (Meets M read) (sym (demand-1 .answered d M e .1)) fine
 
     -- a recording is refused on a full tape alone
-    records-so : (k : ℕ) (left right : Operand floats) → known k ≡ true → first-amiss M (handles (used k left right)) ≡ none → Meets M read (step (operate k left right nothing) M .0 .number)
-    records-so k left right there live = by-room (eqb (M .state .length) (capacity (M .lent))) refl where
-      by-room : (b : Bool) → eqb (M .state .length) (capacity (M .lent)) ≡ b → Meets M read (step (operate k left right nothing) M .0 .number)
+    records-so : (l : Line) (k : ℕ) (left right : Operand floats) → call M l ≡ operate k left right nothing → known k ≡ true → first-amiss M (handles (used k left right)) ≡ none → Meets M (some l) (step (operate k left right nothing) M .0 .number)
+    records-so l k left right same there live = by-room (eqb (M .state .length) (capacity (M .lent))) refl where
+      by-room : (b : Bool) → eqb (M .state .length) (capacity (M .lent)) ≡ b → Meets M (some l) (step (operate k left right nothing) M .0 .number)
       by-room true e =
           let so : refusal-of (operate k left right nothing) M ≡ some Full = rw (lent-fits, turn caller.Recording refl, there, live, h .shaped .active, e) in
-          subst (Meets M read) (sym (ap (λ x. x .0 .number) (demand-1 .refused (operate k left right nothing) M Full so))) (full (eqb-true _ _ e ∙ h .shaped .large))
+          subst (Meets M (some l)) (sym (ap (λ x. x .0 .number) (demand-1 .refused (operate k left right nothing) M Full so))) (full l refl (ap (λ d. refusal-of d M) same ∙ so) (eqb-true _ _ e ∙ h .shaped .large))
       by-room false e =
           answers-so (operate k left right nothing) (rw (lent-fits, turn caller.Recording refl, there, live, h .shaped .active, e, h .shaped .active, ne-eqb (M .state .next) last-serial (λ e. omega (arith, h .shaped .next))))
 
@@ -89,11 +89,11 @@ module _ {j : ℕ} {M : Machine floats} (h : Held j M) (few : j ≤ most-session
     walks-so p root standing =
         answers-so (pass p) (rw (lent-fits, turn caller.Passing refl, root, standing, range-sound M (h .sound) (pass p) (rw (lent-fits, turn caller.Passing refl)) root))
 
-    line-meets : (l : Line) → Within l → stands M l ≡ true → Meets M read (step (call M l) M .0 .number)
-    line-meets (leaf pattern) w s = records-so _ _ _ refl refl
-    line-meets (op k left right) (_, most, _, _) s = records-so k _ _ (lt-ltb k 11 (omega arith)) (both-live (one-sided k) left right s)
-    line-meets (op-7 left) w s = records-so _ _ _ refl (operand-lives left [] s refl)
-    line-meets (op-10 left) w s = records-so _ _ _ refl (operand-lives left [] s refl)
+    line-meets : (l : Line) → Within l → stands M l ≡ true → Meets M (some l) (step (call M l) M .0 .number)
+    line-meets (leaf pattern) w s = records-so (leaf pattern) _ _ _ refl refl refl
+    line-meets (op k left right) (_, most, _, _) s = records-so (op k left right) k _ _ refl (lt-ltb k 11 (omega arith)) (both-live (one-sided k) left right s)
+    line-meets (op-7 left) w s = records-so (op-7 left) _ _ _ refl refl (operand-lives left [] s refl)
+    line-meets (op-10 left) w s = records-so (op-10 left) _ _ _ refl refl (operand-lives left [] s refl)
     line-meets mark-set w s = moved-so set-mark (turn caller.Move refl)
     line-meets mark-reset w s = moved-so reset-mark (turn caller.Move refl)
     line-meets rewind-mark w s = moved-so rewind-to-mark (turn caller.Move refl)
@@ -162,7 +162,7 @@ module _ (R : Reader) (session : List ℕ) where
 
   pub ways : (lent : List ℕ) → Ways lent (answered R session lent)
   ways lent = by-test (Ways lent) (ltb most-session (length session)) (λ e. overlong (ltb-true most-session (length session) e)) (λ e. by-run (ltb-false most-session (length session) e) (run-lines (R .read) 1 (lines session) started) refl) where
-    by-run : length session ≤ most-session → (r : Ran) → run-lines (R .read) 1 (lines session) started ≡ r → Ways lent (reported r lent)
+    by-run : length session ≤ most-session → (r : Outcome) → run-lines (R .read) 1 (lines session) started ≡ r → Ways lent (reported r lent)
     by-run h (ended M) e =
         let all : ran ≤ most-session = omega (arith, few-ran) in
         let same : M ≡ L = run-is-run .ended-so R session M e .0 in
@@ -173,10 +173,10 @@ module _ (R : Reader) (session : List ℕ) where
         stops number line (omega arith) (omega (arith, lines-few session)) (subst (Meets L (read-at R session line)) refuses (meets held-last (omega (arith, few-ran)) R (getD (lines session) (line - 1) []))) z
 
   -- with a number below 16,777,216 the run ended, and what it left was listed
-  pub listed-so : (lent : List ℕ) → answered R session lent .0 < 16777216
+  pub listed-so : (lent : List ℕ) → answered R session lent .0 < least-refusal
       → (run-lines (R .read) 1 (lines session) started ≡ ended L) × (answered R session lent ≡ (length (listing L), listing L ++ drop (length (listing L)) lent))
   listed-so lent = by-way (answered R session lent) (ways lent) where
-    by-way : (y : ℕ × List ℕ) → Ways lent y → y .0 < 16777216 → (run-lines (R .read) 1 (lines session) started ≡ ended L) × (y ≡ (length (listing L), listing L ++ drop (length (listing L)) lent))
+    by-way : (y : ℕ × List ℕ) → Ways lent y → y .0 < least-refusal → (run-lines (R .read) 1 (lines session) started ≡ ended L) × (y ≡ (length (listing L), listing L ++ drop (length (listing L)) lent))
     by-way _ (lists e h) below = (e, refl)
     by-way _ (too-long h) below = absurd (omega arith)
     by-way _ (stops k at first few m z) below = absurd (z (omega arith))
@@ -185,14 +185,15 @@ module _ (R : Reader) (session : List ℕ) where
 -- ---- what is so of the number and the bytes, each way
 
 module _ (R : Reader) (session lent : List ℕ) where
-  counted-so : (k : ℕ) (bytes : List ℕ) → k ≤ most-listing → Says R session lent k bytes
-  counted-so k bytes h = record {
-    only = rw (lt-ltb k 16777216 (omega arith));
+  counted-so : let text = listing (left-by R session) in length text ≤ most-listing → Says R session lent (length text) (text ++ drop (length text) lent)
+  counted-so h = record {
+    only = rw (lt-ltb (length (listing (left-by R session))) least-refusal (omega arith));
     three = λ e. absurd (omega arith);
     five = λ e. absurd (omega arith);
     eight = λ e. absurd (omega arith);
     nine = λ e. absurd (omega arith);
     untouched = λ e. absurd (omega arith);
+    lists = λ _. (refl, refl);
     longest = λ _. h;
     has-room = λ _ e. omega arith;
   }
@@ -201,22 +202,27 @@ module _ (R : Reader) (session lent : List ℕ) where
   short : length (listing (left-by R session)) ≤ most-listing
   short = let f = held-last R session .shaped in longest (left-by R session) (omega (arith, f .large)) (omega arith)
 
-  refused-so : (k at : ℕ) → at < 16777216 → among k met ≡ true → (k ≡ 0 → ⊥)
+  -- the line there records, and the tape has no room
+  abbrev Filled : ℕ → Type 0
+  Filled at = let L = left-by R session in (l : Line) × (read-at R session at ≡ some l) × (refusal-of (call L l) L ≡ some Full) × (L .state .length ≡ session-nodes)
+
+  refused-so : (k at : ℕ) → at < least-refusal → among k met ≡ true → (k ≡ 0 → ⊥)
       → (k ≡ 3 → (l : Line) × (read-at R session at ≡ some l) × (stands (left-by R session) l ≡ false))
-      → (k ≡ 5 → left-by R session .state .length ≡ room)
+      → (k ≡ 5 → Filled at)
       → (k ≡ 8 → (at ≡ 0) × (length lent < length (listing (left-by R session))))
       → (k ≡ 9 → (at ≡ 0 → most-session < length session) × ((at ≡ 0 → ⊥) → read-at R session at ≡ none))
       → Says R session lent (refusal k at) lent
   refused-so k at small found z at-3 at-5 at-8 at-9 =
-      let number : refusal k at / 16777216 ≡ k = omega arith in
-      let line : refusal k at % 16777216 ≡ at = omega arith in
+      let number : refusal k at / least-refusal ≡ k = omega arith in
+      let line : refusal k at % least-refusal ≡ at = omega arith in
       record {
-        only = rw (le-ltb (refusal k at) 16777216 (omega arith), number) found;
+        only = rw (le-ltb (refusal k at) least-refusal (omega arith), number) found;
         three = λ e. subst (λ i. (l : Line) × (read-at R session i ≡ some l) × (stands (left-by R session) l ≡ false)) (sym line) (at-3 (sym number ∙ e));
-        five = λ e. at-5 (sym number ∙ e);
+        five = λ e. subst Filled (sym line) (at-5 (sym number ∙ e));
         eight = λ e. let (none-at-fault, long) = at-8 (sym number ∙ e) in (line ∙ none-at-fault, long);
         nine = λ e. subst (λ i. (i ≡ 0 → most-session < length session) × ((i ≡ 0 → ⊥) → read-at R session i ≡ none)) (sym line) (at-9 (sym number ∙ e));
         untouched = λ _. refl;
+        lists = λ e. absurd (omega arith);
         longest = λ e. absurd (omega arith);
         has-room = λ h e. omega (arith, at-8 (sym number ∙ e) .1, short);
       }
@@ -224,11 +230,11 @@ module _ (R : Reader) (session lent : List ℕ) where
   stopped-so : (k at : ℕ) → 0 < at → at ≤ most-session → Meets (left-by R session) (read-at R session at) k → (k ≡ 0 → ⊥) → Says R session lent (refusal k at) lent
   stopped-so _ at first few fine z = absurd (z refl)
   stopped-so _ at first few (three l e s) z = refused-so 3 at (omega arith) refl z (λ _. (l, e, s)) (λ e. absurd (omega arith)) (λ e. absurd (omega arith)) (λ e. absurd (omega arith))
-  stopped-so _ at first few (full e) z = refused-so 5 at (omega arith) refl z (λ e. absurd (omega arith)) (λ _. e) (λ e. absurd (omega arith)) (λ e. absurd (omega arith))
+  stopped-so _ at first few (full l e so n) z = refused-so 5 at (omega arith) refl z (λ e. absurd (omega arith)) (λ _. (l, e, so, n)) (λ e. absurd (omega arith)) (λ e. absurd (omega arith))
   stopped-so _ at first few (nine e) z = refused-so 9 at (omega arith) refl z (λ e. absurd (omega arith)) (λ e. absurd (omega arith)) (λ e. absurd (omega arith)) (λ _. (λ e. absurd (omega arith), λ _. e))
 
   by-way : (y : ℕ × List ℕ) → Ways R session lent y → Says R session lent (y .0) (y .1)
-  by-way _ (lists e h) = counted-so _ _ short
+  by-way _ (lists e h) = counted-so short
   by-way _ (too-long h) = refused-so 8 0 (omega arith) refl (λ e. omega arith) (λ e. absurd (omega arith)) (λ e. absurd (omega arith)) (λ _. (refl, h)) (λ e. absurd (omega arith))
   by-way _ (stops k at first few m z) = stopped-so k at first few m z
   by-way _ (overlong h) = refused-so 9 0 (omega arith) refl (λ e. omega arith) (λ e. absurd (omega arith)) (λ e. absurd (omega arith)) (λ e. absurd (omega arith)) (λ _. (λ _. h, λ z. absurd (z refl)))

@@ -18,7 +18,7 @@ use Rattle.tape.specs.Kept.{fresh, after}
 use Rattle.tape.specs.Passes.{Unrefused}
 use Rattle.tape.proofs.Tests.{by-test}
 use Rattle.session.specs.Lines.{Line, Reader}
-use Rattle.session.specs.Session.{call, stands, run-line, run-read, lines, Ran, ended, stopped, run-lines, zeros, started}
+use Rattle.session.specs.Session.{call, stands, run-line, run-read, lines, Outcome, ended, stopped, run-lines, zeros, started}
 use Rattle.files.specs.Files.{called, calls-of, session-calls, left-by, RunIsRun}
 
 -- a line that is not refused names indexes below the length, and is the step of its call
@@ -31,7 +31,7 @@ Keeps read P = (j : ℕ) (M : Machine floats) (text : List ℕ) (l : Line) → r
 
 module _ (read : List ℕ → Option Line) (P : ℕ → Machine floats → Type 0) (each : Keeps read P) where
   -- what the lines come to, the first of them line k, is what the calls do on M
-  pub record Follows (k : ℕ) (texts : List (List ℕ)) (M : Machine floats) (r : Ran) (cs : List (Call floats)) : Type 0 where
+  pub record Follows (k : ℕ) (texts : List (List ℕ)) (M : Machine floats) (r : Outcome) (cs : List (Call floats)) : Type 0 where
     pub unrefused : Unrefused (run cs M .0)
     pub few : length cs ≤ length texts
     pub keeps : (j : ℕ) → P j M → P (j + length cs) (after cs M)
@@ -50,7 +50,7 @@ module _ (read : List ℕ → Option Line) (P : ℕ → Machine floats → Type 
   }
 
   -- one that is not, and those behind it
-  one-more : (k : ℕ) (text : List ℕ) (texts : List (List ℕ)) (M : Machine floats) (c : Call floats) (r : Ran) (cs : List (Call floats)) → step c M .0 .number ≡ 0 → ((j : ℕ) → P j M → P (j + 1) (step c M .1)) → Follows (k + 1) texts (step c M .1) r cs → Follows k (text ∷ texts) M r (c ∷ cs)
+  one-more : (k : ℕ) (text : List ℕ) (texts : List (List ℕ)) (M : Machine floats) (c : Call floats) (r : Outcome) (cs : List (Call floats)) → step c M .0 .number ≡ 0 → ((j : ℕ) → P j M → P (j + 1) (step c M .1)) → Follows (k + 1) texts (step c M .1) r cs → Follows k (text ∷ texts) M r (c ∷ cs)
   one-more k text texts M c r cs u kept f = record {
     unrefused = (u, f .unrefused);
     few = omega (arith, f .few);

@@ -13,7 +13,7 @@ use Rattle.tape.specs.Machine.{Machine, all}
 use Rattle.tape.proofs.Ranges.{all-append}
 use Rattle.tape.proofs.Tests.{by-test}
 use Rattle.session.specs.Lines.{Operand, n, c, Line, leaf, op, op-7, op-10, mark-set, mark-reset, rewind-mark, rewind-init, clear-adj, pass-back, pass-tomark, pass-tostart, pass-rest, operand-text, text, Reader}
-use Rattle.session.specs.Session.{run-line, run-read, lines, Ran, ended, stopped, run-lines, started}
+use Rattle.session.specs.Session.{run-line, run-read, lines, Outcome, ended, stopped, run-lines, started}
 use Rattle.files.specs.Summed.{file, AllWithin}
 
 -- ---- bytes none of which is a line feed
@@ -83,7 +83,7 @@ lines-file (l ∷ ls) = text-line l (file ls) ∙ ap (λ rest. text l ∷ rest) 
 -- ---- lines that are read
 
 -- lines in turn, the first of them line k
-abbrev pub run-all : ℕ → List Line → Machine floats → Ran
+abbrev pub run-all : ℕ → List Line → Machine floats → Outcome
 run-all k [] M = ended M
 run-all k (l ∷ ls) M =
     let one = run-line l M in cond (eqb (one .0 .number) 0) (run-all (k + 1) ls (one .1)) (stopped (one .0 .number) k)

@@ -5,19 +5,20 @@ use mathlib.Core.Bool.{true, false, _||_, cond}
 use mathlib.Core.List.{List, [], _∷_, _++_}
 use mathlib.Core.Option.{Option, none, some}
 use lib.Dec.{ltb, eqb}
-use lib.ListN.{length, getD}
+use lib.ListN.{length, getD, drop}
 use Rattle.tape.specs.Numbers.{floats}
 use Rattle.tape.specs.Machine.{Arrays, Machine}
-use Rattle.tape.specs.Handles.{node, live}
+use Rattle.tape.specs.Handles.{live}
 use Rattle.tape.specs.Listing.{listing}
 use Rattle.tape.specs.Calls.{Call, move, start}
+use Rattle.tape.specs.Refusals.{refusal-of}
 use Rattle.tape.specs.Steps.{run}
 use Rattle.tape.specs.Kept.{fresh, after}
 use Rattle.tape.specs.Passes.{Unrefused}
-use Rattle.tape.specs.declared.node.Handle.{Handle}
+use Rattle.tape.specs.declared.errors.Refusal.the-variants.{Full}
 use Rattle.revolutions.specs.Answered.{among}
-use Rattle.session.specs.Lines.{n, Line, Reader}
-use Rattle.session.specs.Session.{operand, call, stands, run-read, lines, ended, stopped, run-lines, room, zeros, started, most-session, answered}
+use Rattle.session.specs.Lines.{Line, Reader}
+use Rattle.session.specs.Session.{standing, call, stands, run-read, lines, ended, stopped, run-lines, session-nodes, zeros, started, most-session, least-refusal, answered}
 
 -- ---- the run of a file is a run of calls
 
@@ -62,21 +63,21 @@ pub record RunIsRun : Type 0 where
 
 -- ---- handles
 
--- After any calls from a new tape, and so at every line of a session, the handle that `n` and an index make is live
+-- After any calls from a new tape, and so at every line of a session, the handle that `n` and an index is, is live
 -- exactly where the index is below the length. Proved in proofs/Held.antt
 abbrev pub LiveBelow : Type 0
 LiveBelow =
-    (A : Arrays floats) (cs : List (Call floats)) (i : ℕ) (h : Handle) → let M = after cs (fresh A) in
-    operand M (n i) ≡ node h → live M h ≡ ltb i (M .state .length)
+    (A : Arrays floats) (cs : List (Call floats)) (i : ℕ) → let M = after cs (fresh A) in
+    live M (standing M i) ≡ ltb i (M .state .length)
 
 -- ---- what a session can be answered
 
 -- the refusal in the number that is returned, and its line
 abbrev pub refusal-in : ℕ → ℕ
-refusal-in x = x / 16777216
+refusal-in x = x / least-refusal
 
 abbrev pub line-in : ℕ → ℕ
-line-in x = x % 16777216
+line-in x = x % least-refusal
 
 -- the refusals that a session can meet
 abbrev pub met : List ℕ
@@ -89,20 +90,24 @@ most-listing = 52168
 -- what is so of x, the number that is returned, and of the lent bytes after it
 pub record Says (R : Reader) (session lent : List ℕ) (x : ℕ) (bytes : List ℕ) : Type 0 where
   -- these refusals and nothing else
-  pub only : ltb x 16777216 || among (refusal-in x) met ≡ true
+  pub only : ltb x least-refusal || among (refusal-in x) met ≡ true
   -- 3: the line names an index that is not below the length
   pub three : refusal-in x ≡ 3 → (l : Line) × (read-at R session (line-in x) ≡ some l) × (stands (left-by R session) l ≡ false)
-  -- 5: the tape has its 1,024 nodes
-  pub five : refusal-in x ≡ 5 → left-by R session .state .length ≡ room
+  -- 5: the line records, and the tape has its 1,024 nodes
+  pub five : refusal-in x ≡ 5 → let L = left-by R session in
+      (l : Line) × (read-at R session (line-in x) ≡ some l) × (refusal-of (call L l) L ≡ some Full) × (L .state .length ≡ session-nodes)
   -- 8: no line is at fault, the listing does not fit
   pub eight : refusal-in x ≡ 8 → (line-in x ≡ 0) × (length lent < length (listing (left-by R session)))
   -- 9: the session is overlong, or the line is none
   pub nine : refusal-in x ≡ 9
       → (line-in x ≡ 0 → most-session < length session) × ((line-in x ≡ 0 → ⊥) → read-at R session (line-in x) ≡ none)
   -- at a refusal the lent bytes stay
-  pub untouched : 16777216 ≤ x → bytes ≡ lent
+  pub untouched : least-refusal ≤ x → bytes ≡ lent
+  -- otherwise it is the listing of the machine that the calls leave, and the bytes behind it stay
+  pub lists : x < least-refusal → let text = listing (left-by R session) in
+      (x ≡ length text) × (bytes ≡ text ++ drop (length text) lent)
   -- no listing is longer, and with that room 8 never comes
-  pub longest : x < 16777216 → x ≤ most-listing
+  pub longest : x < least-refusal → x ≤ most-listing
   pub has-room : most-listing ≤ length lent → refusal-in x ≡ 8 → ⊥
 
 -- Proved in proofs/Refused.antt

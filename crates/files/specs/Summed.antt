@@ -14,7 +14,7 @@ use Rattle.expr.specs.Operators.{nothing}
 use Rattle.revolutions.specs.Revolutions.{ResolvedOperand, in-model, own, number, ResolvedOperation, ResolvedRevolution, ResolvedSession, nodes, long-tape}
 use Rattle.session.specs.Lines.{Operand, n, c, Line, mark-set, rewind-mark, clear-adj, pass-tomark, pass-rest, text, Within, Reader}
 use Rattle.session.specs.Lines as line
-use Rattle.session.specs.Session.{number-of, answered}
+use Rattle.session.specs.Session.{number-of, least-refusal, answered}
 
 -- ---- a file
 
@@ -110,5 +110,5 @@ Demand3 =
     (R : Reader) (s : FileSession) (lent : List ℕ) → let session = file (file-lines s) in
     AllWithin (file-lines s)
     → AtOrPast (length (s .model)) (s .revolutions)
-    → answered R session lent .0 < 16777216
+    → answered R session lent .0 < least-refusal
     → answered R session lent ≡ (length (long-listing s), long-listing s ++ drop (length (long-listing s)) lent)

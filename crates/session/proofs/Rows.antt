@@ -2,8 +2,10 @@
 use Prim.Native.Nat.{ℕ, _+_, _*_}
 use mathlib.Core.Path.{_≡_, refl, sym, _∙_}
 use mathlib.Core.List.{List, [], _∷_, _++_}
-use lib.Ieee.{lt, le, mul, add, ofBits, toBits}
+use lib.Ieee.{lt, le, mul, add, sub, div, round, ofBits, toBits}
 use lib.ListN.{length}
+use Rattle.root.specs.Value.{root}
+use Rattle.text.specs.Numerals.{bytes}
 use Rattle.tape.specs.Steps.{step}
 use Rattle.session.specs.Session.{answered}
 use Rattle.session.specs.Rows as rows
@@ -31,7 +33,7 @@ malformed = each 9 1 rows.malformed (refl, (refl, (refl, (refl, (refl, (refl, (r
 
 stale : Each (Refuses 3 2) rows.stale
 unfolding step ofBits
-stale = each 3 2 rows.stale (refl, (refl, (refl, (refl, tt))))
+stale = each 3 2 rows.stale (refl, (refl, (refl, tt)))
 
 second-malformed : Each (Refuses 9 2) rows.second-malformed
 unfolding step ofBits
@@ -45,15 +47,31 @@ empty : Lists rows.empty-listed []
 unfolding step
 empty = lists rows.empty-listed [] refl
 
+rewound : Refuses 3 3 (rows.leaf-then "rewind=init\nop=10 left=n0\n")
+unfolding step ofBits
+rewound = refuses 3 3 (rows.leaf-then "rewind=init\nop=10 left=n0\n") refl
+
+printed : Lists rows.printed-listed rows.printed
+unfolding step mul add ofBits toBits
+printed = lists rows.printed-listed rows.printed refl
+
+every-form : Lists rows.every-form-listed rows.every-form
+unfolding step root round lt le mul add sub div ofBits toBits
+every-form = lists rows.every-form-listed rows.every-form refl
+
 pub every-row : EveryRow
 unfolding step
 every-row = record {
   malformed = malformed;
   stale = stale;
+  rewound = rewound;
   second-malformed = second-malformed;
   all-read = refuses 9 1 (line-feeds 65536) refl;
   overlong = refuses 9 0 (line-feeds 65537) refl;
   empty = empty;
   tie = tie;
+  printed = printed;
+  every-form = every-form;
+  refused-first = λ R. sym (alike R (bytes "mark=sat\n") []) ∙ refl;
   no-room = λ R. sym (alike R [] (sevens 23)) ∙ refl;
 }

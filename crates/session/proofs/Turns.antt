@@ -10,7 +10,7 @@ use lib.ListN.{length, take, drop, length-drop, drop-of-length-le}
 use lib.Seq.{drop-drop}
 use Rattle.tape.specs.Numbers.{floats}
 use Rattle.tape.specs.Machine.{Machine}
-use Rattle.session.specs.Session.{Ran, onto, lines, run-read, run-lines, ended, stopped}
+use Rattle.session.specs.Session.{Outcome, onto, lines, run-read, run-lines, ended, stopped}
 use Rattle.session.specs.Inner.{find, line-length, reading, told}
 
 -- ---- where a line ends
@@ -62,7 +62,7 @@ ends-behind session at e n = omega (arith, with-feed (drop at session) (λ f. n 
 
 -- ---- the lines in turn
 
-pub record Running (session : List ℕ) (whole : Ran) (at line : ℕ) (M : Machine floats) : Type 0 where
+pub record Running (session : List ℕ) (whole : Outcome) (at line : ℕ) (M : Machine floats) : Type 0 where
   pub within : at ≤ length session
   pub few : line ≤ at + 1
   pub rest : run-lines reading line (lines (drop at session)) M ≡ whole
@@ -82,7 +82,7 @@ pub cut-so : {end : ℕ} (session : List ℕ) (at : ℕ) → end ≡ behind sess
 cut-so {end} session at e = let f : end - at ≡ line-length (drop at session) = omega arith in ap (λ n. take n (drop at session)) f
 
 -- what a line comes to decides what the rest comes to
-abbrev goes-on : ℕ → List (List ℕ) → ℕ × Machine floats → Ran
+abbrev goes-on : ℕ → List (List ℕ) → ℕ × Machine floats → Outcome
 goes-on line rest x = cond (eqb (x .0) 0) (run-lines reading (line + 1) rest (x .1)) (stopped (x .0) line)
 
 some-left : (session : List ℕ) (at : ℕ) → at < length session → 0 < length (drop at session)
@@ -99,7 +99,7 @@ one-line session at line M h =
     ap (λ ls. run-lines reading line ls M) (first-line (drop at session) (some-left session at h))
     ∙ ap (λ rest. goes-on line (lines rest) (told (run-read (reading (line-at session at)) M))) (drop-drop (line-length (drop at session)) at session)
 
-pub one-ran : {session : List ℕ} {whole : Ran} {at line end : ℕ} {M : Machine floats} → Running session whole at line M → at < length session → end ≡ behind session at → (number : ℕ) (after : Machine floats) → (number, after) ≡ told (run-read (reading (line-at session at)) M) → number ≡ 0 → Running session whole end (line + 1) after
+pub one-ran : {session : List ℕ} {whole : Outcome} {at line end : ℕ} {M : Machine floats} → Running session whole at line M → at < length session → end ≡ behind session at → (number : ℕ) (after : Machine floats) → (number, after) ≡ told (run-read (reading (line-at session at)) M) → number ≡ 0 → Running session whole end (line + 1) after
 one-ran {session} {whole} {at} {line} {end} {M} r h f number after e z =
     let on = further session at h f in
     record {
@@ -108,9 +108,9 @@ one-ran {session} {whole} {at} {line} {end} {M} r h f number after e z =
       rest = ap (λ k. run-lines reading (line + 1) (lines (drop k session)) after) f ∙ sym (one-line session at line M h ∙ ap (goes-on line (lines (drop (behind session at) session))) (sym e) ∙ rw (eq-eqb number 0 z)) ∙ r .rest;
     }
 
-pub one-stopped : {session : List ℕ} {whole : Ran} {at line : ℕ} {M : Machine floats} → Running session whole at line M → at < length session → (number : ℕ) (after : Machine floats) → (number, after) ≡ told (run-read (reading (line-at session at)) M) → (number ≡ 0 → ⊥) → stopped number line ≡ whole
+pub one-stopped : {session : List ℕ} {whole : Outcome} {at line : ℕ} {M : Machine floats} → Running session whole at line M → at < length session → (number : ℕ) (after : Machine floats) → (number, after) ≡ told (run-read (reading (line-at session at)) M) → (number ≡ 0 → ⊥) → stopped number line ≡ whole
 one-stopped {session} {whole} {at} {line} {M} r h number after e n =
     sym (one-line session at line M h ∙ ap (goes-on line (lines (drop (behind session at) session))) (sym e) ∙ rw (ne-eqb number 0 n)) ∙ r .rest
 
-pub all-ran : {session : List ℕ} {whole : Ran} {at line : ℕ} {M : Machine floats} → Running session whole at line M → length session ≤ at → ended M ≡ whole
+pub all-ran : {session : List ℕ} {whole : Outcome} {at line : ℕ} {M : Machine floats} → Running session whole at line M → length session ≤ at → ended M ≡ whole
 all-ran {session} {whole} {at} {line} {M} r h = rw (drop-of-length-le session h) at (r .rest)

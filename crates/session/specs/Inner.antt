@@ -12,7 +12,7 @@ use Rattle.text.specs.declared.read.Parsed.{Parsed}
 use Rattle.text.specs.declared.read.Parsed.the-variants.{Number, NotANumber}
 use Rattle.tape.specs.Numbers.{floats}
 use Rattle.tape.specs.Machine.{Arrays, Machine, machine}
-use Rattle.tape.specs.Handles as machine-s
+use Rattle.tape.specs.Handles as handles
 use Rattle.tape.specs.Operations.{LEAF, NEGATE, SQRT}
 use Rattle.tape.specs.Answers.{Answer, refused}
 use Rattle.tape.specs.Calls as calls
@@ -24,7 +24,7 @@ use Rattle.expr.specs.Operators.{nothing}
 use Rattle.dual.specs.Outcome.{pass-of}
 use Rattle.dual.specs.declared.passes.Pass as pass
 use Rattle.session.specs.Lines as paper
-use Rattle.session.specs.Session.{Ran, ended, stopped}
+use Rattle.session.specs.Session.{Outcome, ended, stopped, least-refusal}
 use Rattle.session.specs.declared.reading.Source as source
 use Rattle.session.specs.declared.reading.Sourced as sourced
 use Rattle.session.specs.declared.reading.Line as code
@@ -224,7 +224,7 @@ call-with serials (code.the-variants.PassTomark root) =
 call-with serials (code.the-variants.PassTostart root) =
     call.the-variants.Pass (pass.the-variants.BackwardMarkToStart (node-with serials root))
 call-with serials code.the-variants.PassRest = call.the-variants.Pass pass.the-variants.PropagateMarkToStart
-call-with serials code.the-variants.Malformed = call.the-variants.None
+call-with serials code.the-variants.Malformed = call.the-variants.Malformed
 
 abbrev pub move-of : move.Move → calls.Move
 move-of move.the-variants.SetMark = calls.set-mark
@@ -234,11 +234,11 @@ move-of move.the-variants.RewindToInit = calls.rewind-to-init
 
 abbrev pub made : call.Call → Machine floats → Answer floats × Machine floats
 made (call.the-variants.Record op left right) M =
-    step (calls.operate op (machine-s.operand left) (machine-s.operand right) nothing) M
+    step (calls.operate op (handles.operand left) (handles.operand right) nothing) M
 made (call.the-variants.Move which) M = step (calls.move (move-of which)) M
 made call.the-variants.Clear M = step calls.clear M
 made (call.the-variants.Pass which) M = step (calls.pass (pass-of which)) M
-made call.the-variants.None M = (refused refusal.Malformed, M)
+made call.the-variants.Malformed M = (refused refusal.Malformed, M)
 
 -- of an answer nothing but its number is kept
 abbrev pub told : Answer floats × Machine floats → ℕ × Machine floats
@@ -254,11 +254,11 @@ abbrev pub line-length : List ℕ → ℕ
 line-length [] = 0
 line-length (byte ∷ bytes) = cond (eqb byte 10) 1 (suc (line-length bytes))
 
-abbrev pub came-to : outcome.Outcome → Arrays floats → Ran
+abbrev pub came-to : outcome.Outcome → Arrays floats → Outcome
 came-to (outcome.the-variants.Ended t) A = ended (machine t A)
 came-to (outcome.the-variants.Stopped number line) A = stopped number line
 
 -- a line's number leaves the refusal's number its place
 abbrev pub SmallLine : outcome.Outcome → Type 0
 SmallLine (outcome.the-variants.Ended t) = Unit {0}
-SmallLine (outcome.the-variants.Stopped number line) = line < 16777216
+SmallLine (outcome.the-variants.Stopped number line) = line < least-refusal

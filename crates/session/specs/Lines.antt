@@ -75,9 +75,9 @@ Within pass-rest = Unit {0}
 pub record Reader : Type 0 where
   pub read : List ℕ → Option Line
   pub back : (l : Line) → Within l → read (text l) ≡ some l
-  pub only : (bytes : List ℕ) (l : Line) → read bytes ≡ some l → Within l × (bytes ≡ text l)
+  pub only : (given : List ℕ) (l : Line) → read given ≡ some l → Within l × (given ≡ text l)
 
 -- there is one, and no other. Proved in proofs/Reader.antt
 pub record OneReader : Type 0 where
   pub reader : Reader
-  pub alone : (R S : Reader) (bytes : List ℕ) → R .read bytes ≡ S .read bytes
+  pub alone : (R S : Reader) (given : List ℕ) → R .read given ≡ S .read given

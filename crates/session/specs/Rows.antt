@@ -71,16 +71,15 @@ malformed =
 abbrev pub leaf-then : String → List ℕ
 leaf-then line = bytes "leaf=4008000000000000\n" ++ bytes line
 
--- an index that is the length, the largest, a root, and one that a rewind dropped: 3 and never 11
+-- an index that is the length, the largest, and a root: 3 and never 11
 abbrev pub stale : List (List ℕ)
 stale =
     leaf-then "op=7 left=n1\n"
     ∷ leaf-then "op=1 left=n0 right=n99999\n"
     ∷ leaf-then "pass=tomark root=1\n"
-    ∷ bytes "rewind=init\nop=10 left=n0\n"
     ∷ []
 
--- malformed, an index or not
+-- no last line feed; and 9 before 3 within one line
 abbrev pub second-malformed : List (List ℕ)
 second-malformed = leaf-then "op=7 left=n0" ∷ leaf-then "op=1 left=n5 right=n\n" ∷ []
 
@@ -105,14 +104,58 @@ tie-listed =
     ++ bytes "node=1 val=c008000000000000 adj=3ff0000000000000\n"
     ++ bytes "node=2 val=c008000000000000 adj=3ff0000000000000\n"
 
+-- document 01's printed example
+abbrev pub printed : List ℕ
+printed =
+    bytes "leaf=4008000000000000\n"
+    ++ bytes "leaf=4000000000000000\n"
+    ++ bytes "op=3 left=n0 right=n1\n"
+    ++ bytes "op=1 left=n2 right=n0\n"
+    ++ bytes "pass=back root=3\n"
+
+abbrev pub printed-listed : List ℕ
+printed-listed =
+    bytes "nodes=4 mark=0 active=1\n"
+    ++ bytes "node=0 val=4008000000000000 adj=4008000000000000\n"
+    ++ bytes "node=1 val=4000000000000000 adj=4008000000000000\n"
+    ++ bytes "node=2 val=4018000000000000 adj=3ff0000000000000\n"
+    ++ bytes "node=3 val=4022000000000000 adj=3ff0000000000000\n"
+
+-- every form of line. A leaf is rewound; 4 and its root are marked; past the mark stand half the root, 1 less that, and
+-- its negative; the adjoints of a pass to the mark are cleared; the root's half is passed to the mark, and 4 with it to
+-- the start; what is past the mark is rewound, and the rest passed on. Then the mark is taken off, and more recorded
+abbrev pub every-form : List ℕ
+every-form =
+    bytes "leaf=3ff0000000000000\nrewind=init\n"
+    ++ bytes "leaf=4010000000000000\nop=10 left=n0\nmark=set\n"
+    ++ bytes "op=4 left=n1 right=c4000000000000000\nop=2 left=c3ff0000000000000 right=n2\nop=7 left=n3\n"
+    ++ bytes "pass=tomark root=4\nclear=adj\npass=tomark root=2\npass=tostart root=0\n"
+    ++ bytes "op=6 left=n1 right=n0\nrewind=mark\npass=rest\nop=7 left=n1\nmark=reset\n"
+    ++ bytes "op=2 left=n0 right=c3ff0000000000000\nop=4 left=n1 right=n0\nop=6 left=n0 right=n1\n"
+
+abbrev pub every-form-listed : List ℕ
+every-form-listed =
+    bytes "nodes=6 mark=0 active=1\n"
+    ++ bytes "node=0 val=4010000000000000 adj=3ff4000000000000\n"
+    ++ bytes "node=1 val=4000000000000000 adj=3fe0000000000000\n"
+    ++ bytes "node=2 val=c000000000000000 adj=0000000000000000\n"
+    ++ bytes "node=3 val=4008000000000000 adj=0000000000000000\n"
+    ++ bytes "node=4 val=3fe0000000000000 adj=0000000000000000\n"
+    ++ bytes "node=5 val=4000000000000000 adj=0000000000000000\n"
+
 pub record EveryRow : Type 0 where
   pub malformed : Each (Refuses 9 1) malformed
   pub stale : Each (Refuses 3 2) stale
+  -- a node that a rewind dropped
+  pub rewound : Refuses 3 3 (leaf-then "rewind=init\nop=10 left=n0\n")
   pub second-malformed : Each (Refuses 9 2) second-malformed
   -- 65,536 bytes are read, and the first line feed is an empty line; a byte more, and no line is
   pub all-read : Refuses 9 1 (line-feeds 65536)
   pub overlong : Refuses 9 0 (line-feeds 65537)
   pub empty : Lists empty-listed []
   pub tie : Lists tie-listed tie
-  -- a byte too few for the header
+  pub printed : Lists printed-listed printed
+  pub every-form : Lists every-form-listed every-form
+  -- a refused line is told before 8; and a byte too few for the header
+  pub refused-first : (R : Reader) → answered R (bytes "mark=sat\n") [] ≡ (9 * 16777216 + 1, [])
   pub no-room : (R : Reader) → answered R [] (sevens 23) ≡ (8 * 16777216, sevens 23)

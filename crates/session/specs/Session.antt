@@ -20,20 +20,20 @@ use Rattle.tape.specs.declared.node.Handle.{Handle}
 use Rattle.expr.specs.Operators.{unused, nothing, new-leaf}
 use Rattle.listing.specs.Outcome.{listed}
 use Rattle.session.specs.Lines.{n, c, Line, leaf, op, op-7, op-10, mark-set, mark-reset, rewind-mark, rewind-init, clear-adj, pass-back, pass-tomark, pass-tostart, pass-rest, Reader}
-use Rattle.session.specs.Lines as line
+use Rattle.session.specs.Lines as grammar
 
 -- ---- the call that a line names
 
 -- `n` and an index: the handle of that index with the serial that stands there
-abbrev pub handle-at : Machine floats → ℕ → Operand floats
-handle-at M i = node (record { index = i; serial = getD (M .lent .serial) i 0 })
+abbrev pub standing : Machine floats → ℕ → Handle
+standing M i = record { index = i; serial = getD (M .lent .serial) i 0 }
 
 -- `c` and a pattern: the number that has it; any NaN's is a NaN
 abbrev pub number-of : ℕ → Float
 number-of pattern = ofBits binary64 pattern
 
-abbrev pub operand : Machine floats → line.Operand → Operand floats
-operand M (n index) = handle-at M index
+abbrev pub operand : Machine floats → grammar.Operand → Operand floats
+operand M (n index) = node (standing M index)
 operand M (c pattern) = plain (number-of pattern)
 
 abbrev pub call : Machine floats → Line → Call floats
@@ -46,13 +46,13 @@ call M mark-reset = move reset-mark
 call M rewind-mark = move rewind-to-mark
 call M rewind-init = move rewind-to-init
 call M clear-adj = clear
-call M (pass-back root) = pass (backward (handle-at M root))
-call M (pass-tomark root) = pass (backward-to-mark (handle-at M root))
-call M (pass-tostart root) = pass (backward-mark-to-start (handle-at M root))
+call M (pass-back root) = pass (backward (node (standing M root)))
+call M (pass-tomark root) = pass (backward-to-mark (node (standing M root)))
+call M (pass-tostart root) = pass (backward-mark-to-start (node (standing M root)))
 call M pass-rest = pass propagate-mark-to-start
 
 -- the indexes of nodes that a line names
-abbrev pub indexes-of : line.Operand → List ℕ
+abbrev pub indexes-of : grammar.Operand → List ℕ
 indexes-of (n index) = index ∷ []
 indexes-of (c pattern) = []
 
@@ -84,7 +84,7 @@ run-line l M = cond (stands M l) (step (call M l) M) (refused Stale, M)
 -- the lines of a text, each with its line feed; what stands behind the last line feed is a line without one
 abbrev pub onto : ℕ → List (List ℕ) → List (List ℕ)
 onto byte [] = (byte ∷ []) ∷ []
-onto byte (line ∷ lines) = (byte ∷ line) ∷ lines
+onto byte (first ∷ rest) = (byte ∷ first) ∷ rest
 
 abbrev pub lines : List ℕ → List (List ℕ)
 lines [] = []
@@ -96,27 +96,27 @@ run-read none M = (refused Malformed, M)
 run-read (some l) M = run-line l M
 
 -- what the lines come to: the machine after the last, or the number of the first refusal and its line
-pub data Ran : Type 0 where
-  ended : Machine floats → Ran
-  stopped : (number line : ℕ) → Ran
+pub data Outcome : Type 0 where
+  ended : Machine floats → Outcome
+  stopped : (refused-by line : ℕ) → Outcome
 
 -- the first of these lines is line k
-abbrev pub run-lines : (List ℕ → Option Line) → ℕ → List (List ℕ) → Machine floats → Ran
+abbrev pub run-lines : (List ℕ → Option Line) → ℕ → List (List ℕ) → Machine floats → Outcome
 run-lines read k [] M = ended M
-run-lines read k (line ∷ lines) M =
-    let one = run-read (read line) M in
-    cond (eqb (one .0 .number) 0) (run-lines read (k + 1) lines (one .1)) (stopped (one .0 .number) k)
+run-lines read k (first ∷ rest) M =
+    let one = run-read (read first) M in
+    cond (eqb (one .0 .number) 0) (run-lines read (k + 1) rest (one .1)) (stopped (one .0 .number) k)
 
 -- ---- the answer
 
 -- the tape starts active, with room for 1,024 nodes
-abbrev pub room : ℕ
-room = 1024
+abbrev pub session-nodes : ℕ
+session-nodes = 1024
 
 abbrev pub zeros : Arrays floats
 zeros =
     let O = floats .nought in
-    arrays (replicate room O) (replicate room O) (replicate room 0) (replicate room 0) (replicate (slot room) 0) (replicate (slot room) O)
+    arrays (replicate session-nodes O) (replicate session-nodes O) (replicate session-nodes 0) (replicate session-nodes 0) (replicate (slot session-nodes) 0) (replicate (slot session-nodes) O)
 
 abbrev pub started : Machine floats
 started = after (move start ∷ []) (fresh zeros)
@@ -124,14 +124,17 @@ started = after (move start ∷ []) (fresh zeros)
 abbrev pub most-session : ℕ
 most-session = 65536
 
--- the number that is returned for a refusal at a line
+-- a number below this counts bytes, and from it on one tells of a refusal and its line
+abbrev pub least-refusal : ℕ
+least-refusal = 16777216
+
 abbrev pub refusal : ℕ → ℕ → ℕ
-refusal number line = number * 16777216 + line
+refusal refused-by line = refused-by * least-refusal + line
 
 -- The number that is returned, and the lent bytes after the call: how many bytes the listing has, with the listing
 -- written over the first of them; at a refusal the lent bytes stay. Where the listing does not fit, no line is at fault
-abbrev pub reported : Ran → List ℕ → ℕ × List ℕ
-reported (stopped number line) lent = (refusal number line, lent)
+abbrev pub reported : Outcome → List ℕ → ℕ × List ℕ
+reported (stopped refused-by line) lent = (refusal refused-by line, lent)
 reported (ended M) lent =
     let x = listed M lent in
     let answer = x .0 .0 in

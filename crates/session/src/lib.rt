@@ -19,13 +19,14 @@ ghost use Rattle.tape.specs.Answers.{outcome};
 ghost use Rattle.tape.specs.Calls.{move, start};
 ghost use Rattle.tape.specs.Kept.{fresh, after};
 ghost use Rattle.session.specs.Lines.{Reader};
-ghost use Rattle.session.specs.Session.{run-lines, lines as Session·lines, most-session, refusal, reported, ended, answered};
+ghost use Rattle.session.specs.Session.{run-lines, lines as Session·lines, most-session, least-refusal, refusal, reported, ended, answered};
 ghost use Rattle.session.specs.Inner.{reading as Inner·reading};
 
 // Runs a session and writes the listing; the bytes behind it stay. Answers how many bytes it has or, at a refusal, its
 // number times 16,777,216 plus the line, and then every byte stays: 9 for a malformed line, and with line 0 for a
 // session of over 65,536 bytes; 3 for an index not below the length; 5 past 1,024 nodes; and with line 0, 8 where the
-// listing does not fit.
+// listing does not fit. In the promise R is what reads a line: the inverse of the lines' texts, of which there is one
+// and no other (`OneReader` of specs/Lines.antt).
 #[no_mangle]
 pub extern "C" fn ingthabor_session(session: &[u8], listing: &mut [u8]) -> u32
     ensures { λ x. ⌜
@@ -55,6 +56,9 @@ pub extern "C" fn ingthabor_session(session: &[u8], listing: &mut [u8]) -> u32
 const MOST_SESSION: usize = 65_536;
 
 const NODES: usize = 1_024;
+
+// A number below it counts bytes.
+const LEAST_REFUSAL: u32 = 16_777_216;
 
 fn run_and_list(
     session: &[u8],
@@ -89,6 +93,7 @@ fn run_and_list(
     }
 }
 
+// A start on a new tape is never refused.
 fn begun(answer: Moved) -> Tape
     ensures { λ x. ⌜ ((A : Arrays floats) → machine x A ≡ outcome answer A .1) ⌝ }
 {
@@ -120,8 +125,8 @@ fn list(
 
 // The number that tells of a refusal and its line.
 fn refusal_at(number: u8, line: u32) -> u32
-    requires { ⌜ line < 16777216 ⌝ }
+    requires { ⌜ line < least-refusal ⌝ }
     ensures { λ x. ⌜ x ≡ refusal number line ⌝ }
 {
-    number as u32 * 16_777_216 + line
+    number as u32 * LEAST_REFUSAL + line
 }

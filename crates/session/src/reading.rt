@@ -67,7 +67,7 @@ pub(crate) fn find(text: &[u8], byte: u8) -> usize
     i
 }
 
-// A word is followed by nothing or, with its space, by what else the line has.
+// A line is one word, or a first word and, from its space on, the rest.
 fn read_words(text: &[u8]) -> Line
     ensures { λ x. ⌜ x ≡ words (now (text .entry)) ⌝ }
 {

@@ -38,8 +38,8 @@ pub(crate) enum Call {
     Move(Move),
     Clear,
     Pass(Pass),
-    // The line is malformed.
-    None,
+    // The line is malformed, and names none.
+    Malformed,
 }
 
 // The moves that a line can name.
@@ -124,7 +124,7 @@ fn call_of(line: Line, serial: &[u64]) -> Call
         Line::PassTomark(root) => Call::Pass(Pass::BackwardToMark(node_at(root, serial))),
         Line::PassTostart(root) => { Call::Pass(Pass::BackwardMarkToStart(node_at(root, serial))) }
         Line::PassRest => Call::Pass(Pass::PropagateMarkToStart),
-        Line::Malformed => Call::None,
+        Line::Malformed => Call::Malformed,
     }
 }
 
@@ -140,7 +140,8 @@ fn operand(source: Source, serial: &[u64]) -> Operand
     }
 }
 
-// The handle of an index with the serial that stands there.
+// The handle of an index with the serial that stands there. It asks nothing of the index: past the serials there is 0,
+// which no node has.
 fn node_at(index: usize, serial: &[u64]) -> Operand
     ensures { λ x. ⌜ x ≡ node-with (now (serial .entry)) index ⌝ }
 {
@@ -184,7 +185,7 @@ fn make(
             right,
             Supplied::NONE,
         )),
-        Call::Move(which) => moved(go(which, tape)),
+        Call::Move(which) => moved(make_move(which, tape)),
         Call::Clear => cleared(
             dual::clearing::reset_adjoints(tape, value, adjoint, serial, count, child, partial),
             tape,
@@ -193,11 +194,11 @@ fn make(
             dual::passes::run(which, tape, value, adjoint, serial, count, child, partial),
             tape,
         ),
-        Call::None => refused(Refusal::Malformed, tape),
+        Call::Malformed => refused(Refusal::Malformed, tape),
     }
 }
 
-fn go(which: Move, tape: Tape) -> Moved
+fn make_move(which: Move, tape: Tape) -> Moved
     ensures { λ x. ⌜ ((A : Arrays floats) → moved-outcome x A ≡ step (move (move-of which)) (machine tape A)) ⌝ }
 {
     match which {

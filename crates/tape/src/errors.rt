@@ -1,5 +1,5 @@
-// Refusals: why a call was not carried out. Each has its number in document 01's list. `Malformed` is of session files
-// alone, and no call on a tape gives it.
+// Refusals: why a call was not carried out. Each has its number in document 01's list, as document 02 amends it.
+// `Malformed` is of session files alone, and no call on a tape gives it.
 ghost use mathlib.Core.Path.{_≡_};
 ghost use Rattle.tape.specs.Answers.{number};
 

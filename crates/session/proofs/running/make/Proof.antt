@@ -14,7 +14,7 @@ make-spec =
     (λ c κs. search needs) (λ c κs. search needs) (λ c. search needs) (λ c κs. search needs) (λ c. search needs)
     (λ c. search needs) (λ c. search needs) (λ c. search needs) (λ c. search needs) (λ c. search needs)
     (λ c. let made = c .before .before .before .before .before .before .before .before .before .before .before .before .before in c .recorded .ensures _ ∙ ap told (made .«record» .ensures) ∙ rw (made .before .before .before .before .before .before .before .before .call .given .1))
-    (λ c. c .moved .ensures _ ∙ ap told (c .before .go .ensures _) ∙ rw (c .before .before .before .call2 .given .1))
+    (λ c. c .moved .ensures _ ∙ ap told (c .before .make-move .ensures _) ∙ rw (c .before .before .before .call2 .given .1))
     (λ c. search needs) (λ c. search needs) (λ c. search needs) (λ c. search needs) (λ c. search needs)
     (λ c. search needs)
     (λ c. let made = c .before .before .before in c .cleared .ensures _ ∙ ap told (made .reset-adjoints .ensures) ∙ rw (made .before .before .before .before .before .before .before .enum-told .given .1))

@@ -1,11 +1,11 @@
 -- By the move, case by case.
 use borrow.Author.Needs.{needs}
 use mathlib.Core.Path.{_∙_}
-use Rattle.session.proofs.running.go.Statement.{statement}
-use Rattle.session.proofs.running.go.Tie as tie
+use Rattle.session.proofs.running.make_move.Statement.{statement}
+use Rattle.session.proofs.running.make_move.Tie as tie
 
-pub go-spec : {M : Type 1} → statement M
-go-spec =
+pub make-move-spec : {M : Type 1} → statement M
+make-move-spec =
     tie.close
     (tie.spec
     (λ c. search needs) (λ c κs. search needs) (λ c. search needs) (λ c κs. search needs) (λ c. search needs)
