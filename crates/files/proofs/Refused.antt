@@ -66,43 +66,42 @@ module _ {j : ℕ} {M : Machine floats} (h : Held j M) (few : j ≤ most-session
       let both = and-eq-true-iff (all (map below (indexes-of x))) (all (map below (indexes-of y))) .0 (sym (all-append (map below (indexes-of x)) (map below (indexes-of y))) ∙ ap all (sym (map-append below (indexes-of x) (indexes-of y))) ∙ e) in
       by-test (λ os. first-amiss M (handles os) ≡ none) alone (λ _. operand-lives x [] (both .0) refl) (λ _. operand-lives x (operand M y ∷ []) (both .0) (operand-lives y [] (both .1) refl))
 
-  module _ {read : Option Line} where
-    answers-so : (d : Call floats) → refusal-of d M ≡ none → Meets M read (step d M .0 .number)
-    answers-so d e = subst (Meets M read) (sym (demand-1 .answered d M e .1)) fine
+  answers-so : {read : Option Line} (d : Call floats) → refusal-of d M ≡ none → Meets M read (step d M .0 .number)
+  answers-so {read} d e = subst (Meets M read) (sym (demand-1 .answered d M e .1)) fine
 
-    -- a recording is refused on a full tape alone
-    records-so : (l : Line) (k : ℕ) (left right : Operand floats) → call M l ≡ operate k left right nothing → known k ≡ true → first-amiss M (handles (used k left right)) ≡ none → Meets M (some l) (step (operate k left right nothing) M .0 .number)
-    records-so l k left right same there live = by-room (eqb (M .state .length) (capacity (M .lent))) refl where
-      by-room : (b : Bool) → eqb (M .state .length) (capacity (M .lent)) ≡ b → Meets M (some l) (step (operate k left right nothing) M .0 .number)
-      by-room true e =
-          let so : refusal-of (operate k left right nothing) M ≡ some Full = rw (lent-fits, turn caller.Recording refl, there, live, h .shaped .active, e) in
-          subst (Meets M (some l)) (sym (ap (λ x. x .0 .number) (demand-1 .refused (operate k left right nothing) M Full so))) (full l refl (ap (λ d. refusal-of d M) same ∙ so) (eqb-true _ _ e ∙ h .shaped .large))
-      by-room false e =
-          answers-so (operate k left right nothing) (rw (lent-fits, turn caller.Recording refl, there, live, h .shaped .active, e, h .shaped .active, ne-eqb (M .state .next) last-serial (λ e. omega (arith, h .shaped .next))))
+  -- a recording is refused on a full tape alone
+  records-so : (l : Line) (k : ℕ) (left right : Operand floats) → call M l ≡ operate k left right nothing → known k ≡ true → first-amiss M (handles (used k left right)) ≡ none → Meets M (some l) (step (operate k left right nothing) M .0 .number)
+  records-so l k left right same there live = by-room (eqb (M .state .length) (capacity (M .lent))) refl where
+    by-room : (b : Bool) → eqb (M .state .length) (capacity (M .lent)) ≡ b → Meets M (some l) (step (operate k left right nothing) M .0 .number)
+    by-room true e =
+        let so : refusal-of (operate k left right nothing) M ≡ some Full = rw (lent-fits, turn caller.Recording refl, there, live, h .shaped .active, e) in
+        subst (Meets M (some l)) (sym (ap (λ x. x .0 .number) (demand-1 .refused (operate k left right nothing) M Full so))) (full l refl (ap (λ d. refusal-of d M) same ∙ so) (eqb-true _ _ e ∙ h .shaped .large))
+    by-room false e =
+        answers-so (operate k left right nothing) (rw (lent-fits, turn caller.Recording refl, there, live, h .shaped .active, e, h .shaped .active, ne-eqb (M .state .next) last-serial (λ e. omega (arith, h .shaped .next))))
 
-    moved-so : (m : Move) → in-turn (M .state .walk) (mover m) ≡ true → Meets M read (step (move m) M .0 .number)
-    moved-so m t =
-        let f = h .shaped .fit in
-        subst (Meets M read) (sym (answers (moves-so m M (state-fit-so most-nodes (M .state) (record { length = omega arith; mark = omega arith; next = f .state .next; walk = f .state .walk })) t))) fine
+  moved-so : {read : Option Line} (m : Move) → in-turn (M .state .walk) (mover m) ≡ true → Meets M read (step (move m) M .0 .number)
+  moved-so {read} m t =
+      let f = h .shaped .fit in
+      subst (Meets M read) (sym (answers (moves-so m M (state-fit-so most-nodes (M .state) (record { length = omega arith; mark = omega arith; next = f .state .next; walk = f .state .walk })) t))) fine
 
-    walks-so : (p : Pass floats) → first-amiss M (handles (plan p (M .state) .root)) ≡ none → any-plain (plan p (M .state) .root) ≡ false → Meets M read (step (pass p) M .0 .number)
-    walks-so p root standing =
-        answers-so (pass p) (rw (lent-fits, turn caller.Passing refl, root, standing, range-sound M (h .sound) (pass p) (rw (lent-fits, turn caller.Passing refl)) root))
+  walks-so : {read : Option Line} (p : Pass floats) → first-amiss M (handles (plan p (M .state) .root)) ≡ none → any-plain (plan p (M .state) .root) ≡ false → Meets M read (step (pass p) M .0 .number)
+  walks-so p root standing =
+      answers-so (pass p) (rw (lent-fits, turn caller.Passing refl, root, standing, range-sound M (h .sound) (pass p) (rw (lent-fits, turn caller.Passing refl)) root))
 
-    line-meets : (l : Line) → Within l → stands M l ≡ true → Meets M (some l) (step (call M l) M .0 .number)
-    line-meets (leaf pattern) w s = records-so (leaf pattern) _ _ _ refl refl refl
-    line-meets (op k left right) (_, most, _, _) s = records-so (op k left right) k _ _ refl (lt-ltb k 11 (omega arith)) (both-live (one-sided k) left right s)
-    line-meets (op-7 left) w s = records-so (op-7 left) _ _ _ refl refl (operand-lives left [] s refl)
-    line-meets (op-10 left) w s = records-so (op-10 left) _ _ _ refl refl (operand-lives left [] s refl)
-    line-meets mark-set w s = moved-so set-mark (turn caller.Move refl)
-    line-meets mark-reset w s = moved-so reset-mark (turn caller.Move refl)
-    line-meets rewind-mark w s = moved-so rewind-to-mark (turn caller.Move refl)
-    line-meets rewind-init w s = moved-so rewind-to-init (turn caller.Move refl)
-    line-meets clear-adj w s = answers-so clear (rw (lent-fits, turn caller.Clearing refl))
-    line-meets (pass-back root) w s = walks-so _ (operand-lives (n root) [] s refl) refl
-    line-meets (pass-tomark root) w s = walks-so _ (operand-lives (n root) [] s refl) refl
-    line-meets (pass-tostart root) w s = walks-so _ (operand-lives (n root) [] s refl) refl
-    line-meets pass-rest w s = walks-so _ refl refl
+  line-meets : (l : Line) → Within l → stands M l ≡ true → Meets M (some l) (step (call M l) M .0 .number)
+  line-meets (leaf pattern) w s = records-so (leaf pattern) _ _ _ refl refl refl
+  line-meets (op k left right) (_, most, _, _) s = records-so (op k left right) k _ _ refl (lt-ltb k 11 (omega arith)) (both-live (one-sided k) left right s)
+  line-meets (op-7 left) w s = records-so (op-7 left) _ _ _ refl refl (operand-lives left [] s refl)
+  line-meets (op-10 left) w s = records-so (op-10 left) _ _ _ refl refl (operand-lives left [] s refl)
+  line-meets mark-set w s = moved-so set-mark (turn caller.Move refl)
+  line-meets mark-reset w s = moved-so reset-mark (turn caller.Move refl)
+  line-meets rewind-mark w s = moved-so rewind-to-mark (turn caller.Move refl)
+  line-meets rewind-init w s = moved-so rewind-to-init (turn caller.Move refl)
+  line-meets clear-adj w s = answers-so clear (rw (lent-fits, turn caller.Clearing refl))
+  line-meets (pass-back root) w s = walks-so _ (operand-lives (n root) [] s refl) refl
+  line-meets (pass-tomark root) w s = walks-so _ (operand-lives (n root) [] s refl) refl
+  line-meets (pass-tostart root) w s = walks-so _ (operand-lives (n root) [] s refl) refl
+  line-meets pass-rest w s = walks-so _ refl refl
 
   pub meets : (R : Reader) (text : List ℕ) → Meets M (R .read text) (run-read (R .read text) M .0 .number)
   meets R text = by-reading (R .read text) refl where
@@ -230,7 +229,7 @@ module _ (R : Reader) (session lent : List ℕ) where
   stopped-so : (k at : ℕ) → 0 < at → at ≤ most-session → Meets (left-by R session) (read-at R session at) k → (k ≡ 0 → ⊥) → Says R session lent (refusal k at) lent
   stopped-so _ at first few fine z = absurd (z refl)
   stopped-so _ at first few (three l e s) z = refused-so 3 at (omega arith) refl z (λ _. (l, e, s)) (λ e. absurd (omega arith)) (λ e. absurd (omega arith)) (λ e. absurd (omega arith))
-  stopped-so _ at first few (full l e so n) z = refused-so 5 at (omega arith) refl z (λ e. absurd (omega arith)) (λ _. (l, e, so, n)) (λ e. absurd (omega arith)) (λ e. absurd (omega arith))
+  stopped-so _ at first few (full l e so k) z = refused-so 5 at (omega arith) refl z (λ e. absurd (omega arith)) (λ _. (l, e, so, k)) (λ e. absurd (omega arith)) (λ e. absurd (omega arith))
   stopped-so _ at first few (nine e) z = refused-so 9 at (omega arith) refl z (λ e. absurd (omega arith)) (λ e. absurd (omega arith)) (λ e. absurd (omega arith)) (λ _. (λ e. absurd (omega arith), λ _. e))
 
   by-way : (y : ℕ × List ℕ) → Ways R session lent y → Says R session lent (y .0) (y .1)
