@@ -27,8 +27,7 @@ pub(crate) fn run_lines(
     partial: &mut [f64],
 ) -> Outcome
     requires { ⌜ length (now session) ≤ most-session ⌝ }
-    ensures { λ x. ⌜
-        (came-to x (lent-after value adjoint serial count child partial)
+    ensures { λ x. ⌜ (came-to x (lent-after value adjoint serial count child partial)
         ≡ run-lines reading 1 (lines (now (session .entry))) (machine tape (lent-before value adjoint serial count child partial)))
         × SmallLine x ⌝ }
 {

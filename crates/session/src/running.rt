@@ -167,8 +167,7 @@ fn make(
     child: &mut [u16],
     partial: &mut [f64],
 ) -> Ran
-    ensures { λ x. ⌜
-        ran-as x (lent-after value adjoint serial count child partial)
+    ensures { λ x. ⌜ ran-as x (lent-after value adjoint serial count child partial)
         ≡ told (made call (machine tape (lent-before value adjoint serial count child partial))) ⌝ }
 {
     match call {
