@@ -1,4 +1,5 @@
--- `Reader` has the inverse of the lines' texts, by `Back` and `Only`; `Scans`, `Made`, `Turns` and `Reported` serve the functions.
+-- `Reader` has the inverse of the lines' texts, by `Back` and `Only`; `Scans`, `Made`, `Turns`, `Reported` and `Answered`
+-- serve the functions.
 mod Scans
 mod Made
 mod Turns

@@ -81,11 +81,12 @@ run-line l M = cond (stands M l) (step (call M l) M) (refused Stale, M)
 
 -- ---- the lines in turn
 
--- the lines of a text, each with its line feed; what stands behind the last line feed is a line without one
+-- a byte before the first of some lines
 abbrev pub onto : ℕ → List (List ℕ) → List (List ℕ)
 onto byte [] = (byte ∷ []) ∷ []
 onto byte (first ∷ rest) = (byte ∷ first) ∷ rest
 
+-- the lines of a text, each with its line feed; what stands behind the last line feed is a line without one
 abbrev pub lines : List ℕ → List (List ℕ)
 lines [] = []
 lines (byte ∷ bytes) = cond (eqb byte 10) ((byte ∷ []) ∷ lines bytes) (onto byte (lines bytes))
