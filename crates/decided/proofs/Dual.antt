@@ -16,6 +16,10 @@ nothing u M = u
 abbrev pub adjoints : {U : Type 0} → U → Machine floats → Unit {0} × (Unit {0} × (List Float × U))
 adjoints u M = (tt, (tt, (M .lent .adjoint, u)))
 
+-- the same where a pass is named first
+abbrev adjoints-behind : {U : Type 0} → U → Machine floats → Unit {0} × (Unit {0} × (Unit {0} × (List Float × U)))
+adjoints-behind u M = (tt, adjoints u M)
+
 -- the same of an opening's and of a slice's, whose answer has the state
 abbrev adjoints-lent : {U : Type 0} → U → Arrays floats → Unit {0} × (Unit {0} × (List Float × U))
 adjoints-lent u A = (tt, (tt, (A .adjoint, u)))
@@ -31,6 +35,7 @@ dual = record {
   backward-mark-to-start = record { same = through-with (one-to-one .pass-outcome) (adjoints _) _ _ };
   propagate-to-mark = record { same = through-with (one-to-one .pass-outcome) (adjoints _) _ _ };
   propagate-mark-to-start = record { same = through-with (one-to-one .pass-outcome) (adjoints _) _ _ };
+  run = record { same = through-with (one-to-one .pass-outcome) (adjoints-behind _) _ _ };
   open-pass = record { same = through-with (one-to-one .sliced-outcome) (adjoints-lent _) _ _ };
   take-slice = record { same = through-with (one-to-one .sliced-outcome) (adjoints-lent _) _ _ };
 }

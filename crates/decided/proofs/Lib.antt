@@ -5,6 +5,7 @@ pub mod Tape
 pub mod Expr
 pub mod Dual
 pub mod Listing
+pub mod Session
 pub mod Text
 pub mod Track
 pub mod Open

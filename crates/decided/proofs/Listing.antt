@@ -26,5 +26,6 @@ bytes out = (tt, (tt, (tt, (tt, (tt, (tt, (tt, (out, tt))))))))
 pub listing : Listing
 listing = record {
   bits-of = record { same = equal };
+  float-of = record { same = equal };
   list = record { same = through-with (both-one-to-one _) bytes _ _ };
 }

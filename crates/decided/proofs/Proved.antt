@@ -5,11 +5,13 @@ use Rattle.decided.specs.Tape.{Tape}
 use Rattle.decided.specs.Expr.{Expr}
 use Rattle.decided.specs.Dual.{Dual}
 use Rattle.decided.specs.Listing.{Listing}
+use Rattle.decided.specs.Session.{Session}
 use Rattle.decided.specs.Text.{Text}
 use Rattle.decided.specs.Track.{Track}
 use Rattle.decided.specs.Open.{Open}
 use Rattle.decided.specs.WrongNumbers.{NumbersTried}
 use Rattle.decided.specs.WrongCalls.{CallsTried}
+use Rattle.decided.specs.WrongSession.{SessionTried}
 use Rattle.decided.specs.WrongText.{TextTried}
 use Rattle.decided.specs.WrongTrack.{TrackTried}
 use Rattle.decided.proofs.Root as of-root
@@ -18,6 +20,7 @@ use Rattle.decided.proofs.Tape as of-tape
 use Rattle.decided.proofs.Expr as of-expr
 use Rattle.decided.proofs.Dual as of-dual
 use Rattle.decided.proofs.Listing as of-listing
+use Rattle.decided.proofs.Session as of-session
 use Rattle.decided.proofs.Text as of-text
 use Rattle.decided.proofs.Track as of-track
 use Rattle.decided.proofs.Open as open-ones
@@ -53,6 +56,9 @@ dual = of-dual.dual
 listing : Listing
 listing = of-listing.listing
 
+session : Session
+session = of-session.session
+
 text : Text
 text = of-text.text
 
@@ -67,6 +73,9 @@ numbers-tried = wrong.numbers-tried
 
 calls-tried : CallsTried
 calls-tried = wrong.calls-tried
+
+session-tried : SessionTried
+session-tried = of-session.session-tried
 
 text-tried : TextTried
 text-tried = of-text.text-tried

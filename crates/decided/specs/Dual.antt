@@ -15,5 +15,6 @@ pub record Dual : Type 0 where
   pub backward-mark-to-start : Decided passes.backward_mark_to_start.ended passes.backward_mark_to_start.Reads.Learnt
   pub propagate-to-mark : Decided passes.propagate_to_mark.ended passes.propagate_to_mark.Reads.Learnt
   pub propagate-mark-to-start : Decided passes.propagate_mark_to_start.ended passes.propagate_mark_to_start.Reads.Learnt
+  pub run : Decided passes.run.ended passes.run.Reads.Learnt
   pub open-pass : Decided slicing.open_pass.ended slicing.open_pass.Reads.Learnt
   pub take-slice : Decided slicing.take_slice.ended slicing.take_slice.Reads.Learnt

@@ -4,4 +4,5 @@ use Rattle.listing.proofs as listing
 
 pub record Listing : Type 0 where
   pub bits-of : Decided listing.bits_of.ended listing.bits_of.Reads.Learnt
+  pub float-of : Decided listing.float_of.ended listing.float_of.Reads.Learnt
   pub list : Decided listing.listing.list.ended listing.listing.list.Reads.Learnt

@@ -6,7 +6,7 @@ use mathlib.Core.Path.{_≡_}
 use mathlib.Core.Bool.{Bool, true, false, cond}
 use mathlib.Core.List.{List, [], _∷_, _++_, map}
 use mathlib.Core.Option.{Option, none, some}
-use lib.Ieee.{Float, nan, binary64, div, neg as minus}
+use lib.Ieee.{Float, nan, binary64, div, neg as minus, ofBits}
 use lib.ListN.{set, take, replicate}
 use Rattle.tape.specs.Numbers.{floats}
 use Rattle.tape.specs.Machine.{Arrays, Machine, arrays, machine, new-tape, with-walk, state, span, walk-left}
@@ -408,6 +408,14 @@ propagate-mark-to-start-tried =
     a-step (step (pass propagate-mark-to-start) (marked 3)) (passed (marked 3) 0 (5 ∷ 6 ∷ 1 ∷ 1 ∷ 7 ∷ []))
     ∷ a-step (step (pass propagate-mark-to-start) (marked 3)) (passed (marked 3) 3 (5 ∷ 6 ∷ 1 ∷ 1 ∷ 7 ∷ [])) ∷ []
 
+-- run: the pass to the mark for the one from it; a pass without a root for one with it; backward for the pass from the
+-- mark
+abbrev pub run-tried : List Tried
+run-tried =
+    a-step (step (pass propagate-mark-to-start) (marked 3)) (step (pass propagate-to-mark) (marked 3))
+    ∷ a-step (step (pass (backward-to-mark (node-at 3))) (marked 2)) (step (pass propagate-mark-to-start) (marked 2))
+    ∷ a-step (step (pass (backward (node-at 2))) (marked 2)) (step (pass (backward-mark-to-start (node-at 2))) (marked 2)) ∷ []
+
 -- an opening or a slice that leaves these adjoints and nodes
 abbrev pub cut-to : ℕ → ℕ → List ℕ → Machine floats → Answer floats × Machine floats
 cut-to edges left adjoints M = (cut edges left, with-adjoints M (map float adjoints))
@@ -447,6 +455,12 @@ list-tried =
 abbrev pub bits-of-tried : List Tried
 bits-of-tried = a-number (bits nan) 0xfff8_0000_0000_0000
     ∷ a-number (bits (minus nought)) (bits nought) ∷ []
+
+-- float_of: another number for a NaN's pattern; the sign of a zero lost; the bits read as a whole number
+abbrev pub float-of-tried : List Tried
+float-of-tried = a-number (bits (ofBits binary64 0xfff0_0000_0000_0001)) (bits (ofBits binary64 0xfff0_0000_0000_0000))
+    ∷ a-number (bits (ofBits binary64 0x8000_0000_0000_0000)) (bits nought)
+    ∷ a-number (bits (ofBits binary64 1)) (bits (float 1)) ∷ []
 
 -- ---- wrong answers: every call
 
@@ -498,7 +512,7 @@ calls-tried =
     ++ supplied-one-tried ++ supplied-two-tried ++ sqrt-tried ++ value-tried ++ adjoint-tried ++ is-live-tried
     ++ reset-adjoints-tried ++ backward-tried ++ backward-to-mark-tried ++ backward-mark-to-start-tried
     ++ propagate-to-mark-tried
-    ++ propagate-mark-to-start-tried ++ open-pass-tried ++ take-slice-tried ++ list-tried ++ bits-of-tried ++ refuses-tried ++ untouched-tried
+    ++ propagate-mark-to-start-tried ++ run-tried ++ open-pass-tried ++ take-slice-tried ++ list-tried ++ bits-of-tried ++ float-of-tried ++ refuses-tried ++ untouched-tried
     ++ nought-or-one-tried
 
 -- none of them is the rule's answer

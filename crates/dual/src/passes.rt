@@ -171,7 +171,8 @@ pub fn propagate_mark_to_start(
     )
 }
 
-fn run(
+// Runs a pass, whichever of the five it is. Refuses as that one does.
+pub fn run(
     which: Pass,
     tape: Tape,
     value: &[f64],

@@ -3,4 +3,5 @@ mod bits;
 pub mod listing;
 
 pub use bits::bits_of;
+pub use bits::float_of;
 pub use listing::Listed;

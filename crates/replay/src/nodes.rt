@@ -1,9 +1,9 @@
 // An operation recorded by the port on a tape of its own, and the node that comes of it.
-use crate::words::float_of;
 use expr::Recorded;
 use expr::Supplied;
 use expr::recording::record;
 use listing::bits_of;
+use listing::float_of;
 use tape::Handle;
 use tape::MOST_EDGES;
 use tape::Operand;

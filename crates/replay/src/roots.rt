@@ -8,8 +8,8 @@ use crate::words::Answer;
 use crate::words::Case;
 use crate::words::PLACES;
 use crate::words::find;
-use crate::words::float_of;
 use listing::bits_of;
+use listing::float_of;
 use text::Parsed;
 use text::read_hex;
 

@@ -16,7 +16,7 @@ use crate::words::NAN;
 use crate::words::PLACES;
 use crate::words::byte_at;
 use crate::words::find;
-use crate::words::float_of;
+use listing::float_of;
 use tape::MOST_EDGES;
 ghost use mathlib.Core.Path.{_≡_};
 ghost use Prim.Native.Nat.{_+_, _*_, _≤_, _<_};

@@ -1,10 +1,9 @@
 // A float's 64 bits, as they stand in a list: 16 lower-case hex digits. Any NaN counts as one NaN.
 use listing::bits_of;
+use listing::float_of;
 use text::Parsed;
 use text::read_hex;
-ghost use mathlib.Core.Path.{_≡_};
 ghost use Prim.Native.Nat.{_+_, _*_, _≤_};
-ghost use lib.Ieee.{binary64, nanBits};
 
 pub const DIGITS: usize = 16;
 
@@ -16,10 +15,6 @@ pub type Case = [u64; 48];
 
 // The words that the port got: at most a number of order 4.
 pub type Answer = [u64; 16];
-
-const SIGN: u64 = 0x8000_0000_0000_0000;
-
-const INFINITY: u64 = 0x7ff0_0000_0000_0000;
 
 pub const NAN: u64 = 0x7ff8_0000_0000_0000;
 
@@ -71,24 +66,9 @@ pub(crate) fn read_words(line: &[u8], from: usize, count: usize, case: &mut Case
     true
 }
 
-// f64::from_bits is not defined at such bits, nor f64::to_bits at a NaN.
-fn is_nan(bits: u64) -> bool
-    ensures { λ r. ⌜ r ≡ nanBits binary64 bits ⌝ }
-{
-    bits % SIGN > INFINITY
-}
-
 // The bits by which two words are compared.
 pub(crate) fn one_nan(bits: u64) -> u64 {
-    if is_nan(bits) { NAN } else { bits }
-}
-
-pub(crate) fn float_of(bits: u64) -> f64 {
-    if is_nan(bits) {
-        0.0 / 0.0
-    } else {
-        f64::from_bits(bits)
-    }
+    bits_of(float_of(bits))
 }
 
 // Whether the answer that starts at `from` is the first `count` words of what the port got.

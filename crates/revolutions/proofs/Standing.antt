@@ -35,7 +35,7 @@ pub record Alike {N : Numbers} (A B : Arrays N) : Type 0 where
   pub partial : length (B .partial) ≡ length (A .partial)
 
 -- a node that is written leaves the arrays as long as they were
-written-alike : {N : Numbers} (L : Machine N) (v : N .Number) (es : List (Edge N)) → Alike (L .lent) (written L v es .lent)
+pub written-alike : {N : Numbers} (L : Machine N) (v : N .Number) (es : List (Edge N)) → Alike (L .lent) (written L v es .lent)
 written-alike L v es =
     let n = L .state .length in
     record {
@@ -48,7 +48,7 @@ written-alike L v es =
     }
 
 -- zeros put in the place of the first n
-length-cleared : {A : Type 0} (n : ℕ) (x : A) (s : List A) → n ≤ length s → length (replicate n x ++ drop n s) ≡ length s
+pub length-cleared : {A : Type 0} (n : ℕ) (x : A) (s : List A) → n ≤ length s → length (replicate n x ++ drop n s) ≡ length s
 length-cleared n x s h = simp (length-append, length-replicate, length-drop) (omega arith)
 
 -- ---- a machine in a session

@@ -37,7 +37,7 @@ use Rattle.revolutions.proofs.Chosen.{operand, operation, revolutions, 
 -- ---- one call
 
 -- a move tests the state alone, and whether a walk is open
-moves-so : {N : Numbers} (c : Move) (L : Machine N) → fits false L ≡ true → in-turn (L .state .walk) (mover c) ≡ true → Accepted (move c) L (step (move c) L)
+pub moves-so : {N : Numbers} (c : Move) (L : Machine N) → fits false L ≡ true → in-turn (L .state .walk) (mover c) ≡ true → Accepted (move c) L (step (move c) L)
 moves-so c L shape turn = passes (move c) L (rw (mover-unlent c, shape, turn, no-slice c)) where
   no-slice : (m : Move) → slice-fits (mover m) ≡ true
   no-slice start = refl

@@ -122,13 +122,13 @@ wiped {N} M mark values adjoints edges held u =
 
 -- the model as it stands before the first revolution
 module _ {N : Numbers} (s : Session N) where
-  abbrev first : List (Node N)
+  abbrev pub first : List (Node N)
   first = nodes 0 [] [] (map (resolve-operation 0) (s .model))
 
-  abbrev models : List (N .Number)
+  abbrev pub models : List (N .Number)
   models = map (λ n. n .value) first
 
-  abbrev edges : List (List (Edge N))
+  abbrev pub edges : List (List (Edge N))
   edges = map (λ n. n .edges) first
 
   abbrev m : ℕ
@@ -138,8 +138,10 @@ module _ {N : Numbers} (s : Session N) where
   pub as-many : length first ≡ m
   as-many = length-nodes 0 [] [] (map (resolve-operation 0) (s .model)) ∙ length-map (s .model) (resolve-operation 0)
 
-  -- start, model, mark, clearing, revolutions and the last pass, one after the other
-  played : (M : Machine N) → AtOrPast m (s .revolutions) → Unrefused (run (calls s) M .0) → take m (after (calls s) M .lent .adjoint) ≡ summed (resolve s)
+  -- start, model, mark, clearing, revolutions and the last pass, one after the other, leave the model as it was recorded,
+  -- with its adjoints folded revolution by revolution and walked to the start
+  pub played : (M : Machine N) → AtOrPast m (s .revolutions) → Unrefused (run (calls s) M .0)
+      → Holds (after (calls s) M) m models (walk 0 edges (folded-all (map (part m models) (map (resolve-revolution m) (s .revolutions))) (replicate m (N .nought)))) edges
   played M past (starts, u) =
       let os = recordings (s .model) in
       let rs = revolution-calls (s .revolutions) in
@@ -148,7 +150,6 @@ module _ {N : Numbers} (s : Session N) where
       let M₁ = after os M₀ in
       let M₂ = step (move set-mark) M₁ .1 in
       let M₃ = step clear M₂ .1 in
-      let M₄ = after rs M₃ in
       let (records, (marks, (clears, more))) = unrefused-parts os (move set-mark ∷ clear ∷ rs ++ last) M₀ u in
       let (turns, (walks, _)) = unrefused-parts rs last M₃ more in
       let values : length models ≡ m = length-map first (λ n. n .value) ∙ as-many in
@@ -158,13 +159,19 @@ module _ {N : Numbers} (s : Session N) where
       let h₂ : Holds M₂ (length models) models (replicate m (N .nought)) edges = rw (accepted (move set-mark) M₁ marks .carries) (mark-set M₁ h₁) in
       let h₃ : Holds M₃ m models (replicate m (N .nought)) edges = rw values at (wiped M₂ (length models) models (replicate m (N .nought)) edges h₂ clears) in
       let h₄ = all-turned m models edges values nodes (s .revolutions) M₃ (replicate m (N .nought)) h₃ past turns in
-      let h₅ = to-start M₄ m models _ edges nodes values h₄ walks in
-      let end : after (calls s) M ≡ step (pass propagate-mark-to-start) M₄ .1 = after-append os (move set-mark ∷ clear ∷ rs ++ last) M₀ ∙ after-append rs last M₃ in
-      let size : step (pass propagate-mark-to-start) M₄ .1 .state .length ≡ m = sym (h₅ .long) ∙ values in
-      rw (end, nodes, values) (rw size at (h₅ .adjoint))
+      let end : after (calls s) M ≡ step (pass propagate-mark-to-start) (after rs M₃) .1 = after-append os (move set-mark ∷ clear ∷ rs ++ last) M₀ ∙ after-append rs last M₃ in
+      rw end (to-start (after rs M₃) m models _ edges nodes values h₄ walks)
+
+  adjoints-so : (M : Machine N) → AtOrPast m (s .revolutions) → Unrefused (run (calls s) M .0) → take m (after (calls s) M .lent .adjoint) ≡ summed (resolve s)
+  adjoints-so M past u =
+      let held = played M past u in
+      let values : length models ≡ m = length-map first (λ n. n .value) ∙ as-many in
+      let nodes : length edges ≡ m = length-map first (λ n. n .edges) ∙ as-many in
+      let size : after (calls s) M .state .length ≡ m = sym (held .long) ∙ values in
+      rw (nodes, values) (rw size at (held .adjoint))
 
 -- with passes cut, and reads and listings between
 pub by-turns : {N : Numbers} (s : Session N) (cs : List (Call N)) (M : Machine N) → RunsAs s cs M → model-adjoints s cs M ≡ summed (resolve s)
 by-turns s cs M p =
     let f = session-from-start s cs M p in
-    rw (← f .left .machine) (played s (f .found) (p .roots) (f .left .unrefused))
+    rw (← f .left .machine) (adjoints-so s (f .found) (p .roots) (f .left .unrefused))

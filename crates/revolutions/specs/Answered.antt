@@ -24,7 +24,8 @@ abbrev pub among : ℕ → List ℕ → Bool
 among k [] = false
 among k (n ∷ ns) = eqb n k || among k ns
 
--- document 01's list of refusals
+-- document 01's list of refusals, as document 02 amends it. 9 is not among them: it is of session files, and no call on
+-- a tape gives it
 abbrev pub listed : List ℕ
 listed = 1 ∷ 2 ∷ 3 ∷ 4 ∷ 5 ∷ 6 ∷ 7 ∷ 8 ∷ 11 ∷ 12 ∷ 13 ∷ []
 

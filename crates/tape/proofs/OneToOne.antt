@@ -10,13 +10,13 @@ use Rattle.tape.specs.Numbers.{floats}
 use Rattle.tape.specs.Machine.{Arrays}
 use Rattle.tape.specs.Answers.{number, outcome, OneToOne}
 use Rattle.tape.specs.declared.errors.Refusal.{Refusal}
-use Rattle.tape.specs.declared.errors.Refusal.the-variants.{Misshapen, UnknownOperation, Stale, Detached, Full, SerialsSpent, UnsoundEdge, ListingTooLong, NeverIssued, OutOfTurn, UnfitSlice}
+use Rattle.tape.specs.declared.errors.Refusal.the-variants.{Misshapen, UnknownOperation, Stale, Detached, Full, SerialsSpent, UnsoundEdge, ListingTooLong, Malformed, NeverIssued, OutOfTurn, UnfitSlice}
 use Rattle.tape.specs.declared.tape.Moved.{Moved}
 use Rattle.tape.specs.declared.tape.Moved.the-variants.{Done, Refused}
 use Rattle.tape.specs.declared.tape.Tape.{Tape}
 
 abbrev every-refusal : List Refusal
-every-refusal = Misshapen ∷ UnknownOperation ∷ Stale ∷ Detached ∷ Full ∷ SerialsSpent ∷ UnsoundEdge ∷ ListingTooLong ∷ NeverIssued ∷ OutOfTurn ∷ UnfitSlice ∷ []
+every-refusal = Misshapen ∷ UnknownOperation ∷ Stale ∷ Detached ∷ Full ∷ SerialsSpent ∷ UnsoundEdge ∷ ListingTooLong ∷ Malformed ∷ NeverIssued ∷ OutOfTurn ∷ UnfitSlice ∷ []
 
 abbrev among : {A : Type 0} → List Refusal → A → (Refusal → A) → ℕ → A
 among [] x f k = x
@@ -35,6 +35,7 @@ at-refusal x f Full = refl
 at-refusal x f SerialsSpent = refl
 at-refusal x f UnsoundEdge = refl
 at-refusal x f ListingTooLong = refl
+at-refusal x f Malformed = refl
 at-refusal x f NeverIssued = refl
 at-refusal x f OutOfTurn = refl
 at-refusal x f UnfitSlice = refl

@@ -6,7 +6,7 @@ use mathlib.Core.Option.{Option, none, some}
 use Rattle.tape.specs.Numbers.{Numbers, floats}
 use Rattle.tape.specs.Machine.{Arrays, Machine, machine}
 use Rattle.tape.specs.declared.errors.Refusal.{Refusal}
-use Rattle.tape.specs.declared.errors.Refusal.the-variants.{Misshapen, UnknownOperation, Stale, Detached, Full, SerialsSpent, UnsoundEdge, ListingTooLong, NeverIssued, OutOfTurn, UnfitSlice}
+use Rattle.tape.specs.declared.errors.Refusal.the-variants.{Misshapen, UnknownOperation, Stale, Detached, Full, SerialsSpent, UnsoundEdge, ListingTooLong, Malformed, NeverIssued, OutOfTurn, UnfitSlice}
 use Rattle.tape.specs.declared.node.Handle.{Handle}
 use Rattle.tape.specs.declared.tape.Moved.{Moved}
 use Rattle.tape.specs.declared.tape.Moved.the-variants.{Done, Refused}
@@ -20,6 +20,7 @@ number Full = 5
 number SerialsSpent = 6
 number UnsoundEdge = 7
 number ListingTooLong = 8
+number Malformed = 9
 number NeverIssued = 11
 number OutOfTurn = 12
 number UnfitSlice = 13

@@ -1,4 +1,5 @@
-// Refusals: why a call was not carried out. Each has its number in document 01's list.
+// Refusals: why a call was not carried out. Each has its number in document 01's list, as document 02 amends it.
+// `Malformed` is of session files alone, and no call on a tape gives it.
 ghost use mathlib.Core.Path.{_≡_};
 ghost use Rattle.tape.specs.Answers.{number};
 
@@ -11,13 +12,14 @@ pub enum Refusal {
     SerialsSpent,
     UnsoundEdge,
     ListingTooLong,
+    Malformed,
     NeverIssued,
     OutOfTurn,
     UnfitSlice,
 }
 
 impl Refusal {
-    // The refusal's number: 1 to 8, 11, 12 or 13.
+    // The refusal's number: 1 to 9, 11, 12 or 13.
     pub fn number(self) -> u8
         ensures { λ x. ⌜ x ≡ number self ⌝ }
     {
@@ -30,6 +32,7 @@ impl Refusal {
             Refusal::SerialsSpent => 6,
             Refusal::UnsoundEdge => 7,
             Refusal::ListingTooLong => 8,
+            Refusal::Malformed => 9,
             Refusal::NeverIssued => 11,
             Refusal::OutOfTurn => 12,
             Refusal::UnfitSlice => 13,

@@ -1,19 +1,21 @@
--- What is written is read back: digit by digit from the last, and the first digit of a decimal is no zero.
-use Prim.Native.Nat.{ℕ, zero, suc, _+_, _*_, _/_, _%_, _^_, _≤_, _<_}
-use native.Mathlib.Nat.{mod-lt, mod-eq-of-lt, pow-le-pow-right, pow-zero, pow-succ', div-add-mod, div-lt-iff-lt-mul}
+-- A number that is written is read back: digit by digit from the last, and the first digit of a decimal is no zero.
+-- What is read is the text of that number alone: each value has one byte, and a decimal that does not begin with a zero
+-- has as many digits as its number has places.
+use Prim.Native.Nat.{ℕ, zero, suc, _+_, _-_, _*_, _/_, _%_, _^_, _≤_, _<_}
+use native.Mathlib.Nat.{add-zero, lt-of-not-le, mod-lt, mod-eq-of-lt, pow-le-pow-right, pow-zero, pow-suc, pow-succ', div-one, div-eq-of-lt, div-add-mod, div-div-eq-div-mul, div-lt-iff-lt-mul, mul-add-div, mul-add-mod-self-left}
 use native.Mathlib.Omega.{arith}
 use mathlib.Core.Path.{_≡_, refl, sym, ap, _∙_}
-use mathlib.Core.Bool.{Bool, true, false, _&&_, cond}
+use mathlib.Core.Bool.{Bool, true, false, _&&_, cond, and-eq-true-iff}
 use mathlib.Core.List.{List, [], _∷_, _++_}
-use borrow.Author.Tests.{ltb-true, ltb-false, lt-ltb, le-leb, lt-leb, ne-eqb}
-use lib.Dec.{ltb}
+use borrow.Author.Tests.{ltb-true, ltb-false, leb-true, eqb-true, eqb-false, lt-ltb, le-ltb, le-leb, lt-leb, ne-eqb}
+use lib.Dec.{leb, ltb, eqb}
 use lib.ListN.{length, getD, List·getD-append}
-use Rattle.text.specs.Numerals.{digit, digits, places}
-use Rattle.text.specs.Parsed.{digit-value, read-on, leading-zero, read-decimal}
+use Rattle.text.specs.Numerals.{digit, digits, places, hex, decimal}
+use Rattle.text.specs.Parsed.{digit-value, read-on, read-hex, leading-zero, read-decimal}
 use Rattle.text.specs.Rows.{ReadBack}
 use Rattle.text.specs.declared.read.Parsed.the-variants.{Number}
 use Rattle.text.proofs.Numerals.{length-digits, one-place}
-use Rattle.text.proofs.Reading.{if-passed}
+use Rattle.text.proofs.Reading.{within, few-enough, if-passed, if-not, read-small, decimal-small}
 
 read-then : (b m : ℕ) (front back : List ℕ) (k : ℕ) → read-on b m front ≡ Number k → read-on b m (front ++ back) ≡ read-on b k back
 read-then b m [] back k e = let f : m ≡ k = cc in rw f
@@ -100,8 +102,110 @@ decimal-back k n (suc m) f g h i =
     let few = places-most k m n h in
     so-many-back (places k n) n (suc m) (not-led k n i) (places-some k n) few (omega arith) (places-enough k n i)
 
+-- ---- and what is read is the text of that number alone
+
+-- both halves of a test of range
+between : (low byte high : ℕ) → leb low byte && leb byte high ≡ true → (low ≤ byte) × (byte ≤ high)
+between low byte high e =
+    let (from, to) = and-eq-true-iff (leb low byte) (leb byte high) .0 e in
+    (leb-true low byte from, leb-true byte high to)
+
+-- no other byte has the value of a digit
+byte-of : (byte : ℕ) → digit-value byte < 16 → digit (digit-value byte) ≡ byte
+byte-of byte h = by-tests (leb 48 byte && leb byte 57) (leb 97 byte && leb byte 102) refl refl h
+  where
+    by-tests : (t u : Bool) → leb 48 byte && leb byte 57 ≡ t → leb 97 byte && leb byte 102 ≡ u
+        → cond t (byte - 48) (cond u (byte - 87) 16) < 16
+        → digit (cond t (byte - 48) (cond u (byte - 87) 16)) ≡ byte
+    by-tests true u e f h =
+        let (from, to) = between 48 byte 57 e in
+        rw (lt-ltb (byte - 48) 10 (omega arith)) (omega arith)
+    by-tests false true e f h =
+        let (from, to) = between 97 byte 102 f in
+        rw (le-ltb (byte - 87) 10 (omega arith)) (omega arith)
+    by-tests false false e f h = absurd (omega arith)
+
+-- the first digit is the last of what the others leave of the number
+first-then : (b k n : ℕ) → digits b (suc k) n ≡ digit (n / b ^ k % b) ∷ digits b k n
+first-then b zero n = rw (pow-zero b, div-one n)
+first-then b (suc k) n =
+    ap (λ front. front ++ (digit (n % b) ∷ [])) (first-then b k (n / b))
+    ∙ rw (div-div-eq-div-mul n b (b ^ k), pow-succ' b k)
+
+-- a last digit is taken off as it was put on
+last-off : (b m d : ℕ) → d < b → ((b * m + d) / b ≡ m) × ((b * m + d) % b ≡ d)
+last-off b m d h =
+    let front = mul-add-div {m = b} (omega arith) m d in
+    (front ∙ rw (div-eq-of-lt h, add-zero m), mul-add-mod-self-left b m d ∙ mod-eq-of-lt h)
+
+-- the number so far is what the text after it leaves of the whole, and that text is the whole's last digits
+text-of : (b m : ℕ) (text : List ℕ) (n : ℕ) → b ≤ 16 → read-on b m text ≡ Number n
+    → (n / b ^ length text ≡ m) × (digits b (length text) n ≡ text)
+text-of b m [] n h e = let f : m ≡ n = cc in (rw (pow-zero b, div-one n) (sym f), refl)
+text-of b m (byte ∷ text) n h e =
+    let (test, read) = if-passed (ltb (digit-value byte) b) e in
+    let k = length text in
+    let d = digit-value byte in
+    let below = ltb-true d b test in
+    let (front, back) = text-of b (b * m + d) text n h read in
+    let (less, last) = last-off b m d below in
+    let first : digit (n / b ^ k % b) ≡ byte = rw (front, last) (byte-of byte (omega arith)) in
+    (rw (pow-suc b k, ← div-div-eq-div-mul n (b ^ k) b, front) less, first-then b k n ∙ rw (first, back))
+
+-- 16 digits are read, and 16 are written
+hex-text : (text : List ℕ) (n : ℕ) → read-hex text ≡ Number n → (n < 2 ^ 64) × (text ≡ hex n)
+hex-text text n e =
+    let (all, read) = if-passed (eqb (length text) 16) e in
+    let long = eqb-true (length text) 16 all in
+    let small = rw long at (read-small 16 0 text n read) in
+    (omega arith, sym (rw long at (text-of 16 0 text n (omega arith) read .1)))
+
+ten-to : (i j : ℕ) → i ≤ j → 10 ^ i ≤ 10 ^ j
+ten-to i j = pow-le-pow-right {n = 10} (omega arith) {i = i} {j = j}
+
+-- a number that is not below 10 ^ p has more than p places
+places-are : (k p n : ℕ) → 10 ^ p ≤ n → n < 10 ^ suc p → n < 10 ^ suc k → places k n ≡ suc p
+places-are k p n h i j =
+    let below = places-enough k n j in
+    let enough : p < places k n = lt-of-not-le (λ l. omega (arith, ten-to (places k n) p l)) in
+    omega (arith, places-most k p n i)
+
+-- a first digit that is no zero counts the power of its place
+not-less : (byte : ℕ) (text : List ℕ) (n : ℕ) → (byte ≡ 48 → ⊥) → read-on 10 0 (byte ∷ text) ≡ Number n
+    → 10 ^ length text ≤ n
+not-less byte text n h e = let more : 10 ^ length text < suc n = lt-of-not-le (λ l. h (zero-byte l)) in omega arith
+  where
+    zero-byte : n < 10 ^ length text → byte ≡ 48
+    zero-byte l =
+        let (test, read) = if-passed (ltb (digit-value byte) 10) e in
+        let front = text-of 10 (10 * 0 + digit-value byte) text n (omega arith) read .0 in
+        let none : digit-value byte ≡ 0 = omega (arith, div-eq-of-lt l) in
+        sym (byte-of byte (omega arith)) ∙ ap digit none
+
+-- one digit, or a first one that is no zero, is as many digits as places
+as-many : (most : ℕ) (text : List ℕ) (n : ℕ) → leading-zero text ≡ false → within (length text) most ≡ true
+    → read-on 10 0 text ≡ Number n → places 19 n ≡ length text
+as-many most [] n e f g = cc
+as-many most (byte ∷ []) n e f g = one-place 19 n (omega (arith, read-small 10 0 (byte ∷ []) n g))
+as-many most (byte ∷ next ∷ text) n e f g =
+    let rest = next ∷ text in
+    let k = length rest in
+    let first = eqb-false byte 48 (rw (lt-ltb 1 (suc k) (omega arith)) at e) in
+    let small = read-small 10 0 (byte ∷ rest) n g in
+    let bound = ten-to (suc k) 19 (few-enough (suc k) most f .1) in
+    places-are 19 k n (not-less byte rest n first g) (omega arith) (omega arith)
+
+-- the last digits of a number, as many as it has places, are its decimal
+decimal-text : (most : ℕ) (text : List ℕ) (n : ℕ) → read-decimal most text ≡ Number n → text ≡ decimal n
+decimal-text most text n e =
+    let (unled, some) = if-not (leading-zero text) e in
+    let (few, read) = if-passed (within (length text) most) some in
+    sym (text-of 10 0 text n (omega arith) read .1) ∙ ap (λ p. digits 10 p n) (sym (as-many most text n unled few read))
+
 pub every-number : ReadBack
-every-number = (
-  λ n h. read-back 16 16 n (omega arith) (omega arith) h,
-  λ n most f g h. decimal-back 19 n most f g h (omega (arith, pow-le-pow-right {n = 10} (omega arith) {i = most} {j = 19} g)),
-)
+every-number = record {
+  hex-back = λ n h. read-back 16 16 n (omega arith) (omega arith) h;
+  decimal-back = λ n most f g h. decimal-back 19 n most f g h (omega (arith, ten-to most 19 g));
+  hex-alone = hex-text;
+  decimal-alone = λ most text n e. (decimal-small most text n e, decimal-text most text n e);
+}

@@ -79,7 +79,7 @@ pub if-not : {x : Parsed} {n : ℕ} (t : Bool) → cond t NotANumber x ≡ Numbe
 if-not true e = let z : _≡_ {A = ℕ} 0 1 = cc in absurd (omega arith)
 if-not false e = (refl, e)
 
-read-small : (b m : ℕ) (text : List ℕ) (n : ℕ) → read-on b m text ≡ Number n → n < suc m * b ^ length text
+pub read-small : (b m : ℕ) (text : List ℕ) (n : ℕ) → read-on b m text ≡ Number n → n < suc m * b ^ length text
 read-small b m [] n e = let f : m ≡ n = cc in rw (pow-zero b) (omega arith)
 read-small b m (byte ∷ text) n e =
     let (digit, rest) = if-passed (ltb (digit-value byte) b) e in

@@ -1,5 +1,5 @@
--- What the rules come to: worked rows, proved in proofs/Rows.antt by computation, and that a number which is written is
--- read back, proved in proofs/ReadBack.antt.
+-- What the rules come to: worked rows, proved in proofs/Rows.antt by computation; and that a number which is written is
+-- read back, and that what is read is the text of that number alone, proved in proofs/ReadBack.antt.
 use Prim.Native.Nat.{ℕ, _^_, _≤_, _<_}
 use mathlib.Core.Path.{_≡_}
 use mathlib.Core.List.{List, [], _∷_}
@@ -8,10 +8,16 @@ use Rattle.text.specs.Written.{written}
 use Rattle.text.specs.Parsed.{read-hex, read-hex-start, read-digits, read-decimal}
 use Rattle.text.specs.declared.read.Parsed.the-variants.{Number, NotANumber}
 
-abbrev pub ReadBack : Type 0
-ReadBack =
-    ((n : ℕ) → n < 2 ^ 64 → read-hex (hex n) ≡ Number n)
-    × ((n most : ℕ) → 1 ≤ most → most ≤ 19 → n < 10 ^ most → read-decimal most (decimal n) ≡ Number n)
+pub record ReadBack : Type 0 where
+  -- a number of 64 bits that is written in hex is read back
+  pub hex-back : (n : ℕ) → n < 2 ^ 64 → read-hex (hex n) ≡ Number n
+  -- so is a number of at most 19 digits that is written in decimal
+  pub decimal-back : (n most : ℕ) → 1 ≤ most → most ≤ 19 → n < 10 ^ most → read-decimal most (decimal n) ≡ Number n
+  -- what is read as hex is the text of that number, and of no other
+  pub hex-alone : (text : List ℕ) (n : ℕ) → read-hex text ≡ Number n → (n < 2 ^ 64) × (text ≡ hex n)
+  -- what is read as a decimal is the text of that number, and of no other
+  pub decimal-alone : (most : ℕ) (text : List ℕ) (n : ℕ) → read-decimal most text ≡ Number n
+      → (n < 10 ^ most) × (text ≡ decimal n)
 
 -- three bytes that are lent
 abbrev pub ones : List ℕ

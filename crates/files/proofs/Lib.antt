@@ -1,0 +1,9 @@
+pub mod Runs
+pub mod Held
+pub mod Longest
+pub mod Refused
+pub mod Texts
+pub mod Called
+pub mod Summed
+pub mod Example
+pub mod Proved
