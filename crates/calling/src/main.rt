@@ -1,5 +1,7 @@
 // Two leaves, their product, a pass back, an adjoint; then a rewind, and the product is refused, as is a handle that no
 // call answered (docs/CALLING.md).
+#![tactic(auto)]
+
 use dual::passes::backward;
 use dual::{Passed, Read};
 use expr::operators::new_leaf;
@@ -10,7 +12,7 @@ use listing::bits_of;
 use tape::{Handle, Moved, Operand, Refusal, Tape};
 
 // A recorded node, as an operand, and the state after it, which the next call takes.
-#[derive(Drop)]
+#[derive(Clone, Copy)]
 struct Noted {
     node: Operand,
     tape: Tape,

@@ -1,6 +1,8 @@
 // Runs tapes of capacity 0, 1, 65,535 and 65,536 on real arrays and writes down what the calls answer: the row of
 // document 01's edges that is not in the proved table. Then a pass in slices on a full tape, the refusals that no other
 // program meets, and handles that are live, stale or were never issued.
+#![tactic(auto)]
+
 mod filling;
 mod handles;
 mod powers;

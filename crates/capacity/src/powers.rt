@@ -13,7 +13,7 @@ const X: f64 = 0.9999;
 
 // The first and the last power. Every adjoint is made of the one above it, and the first node's is a sum over all of
 // them, so that a node left out, walked twice or out of order shows.
-#[derive(Drop)]
+#[derive(Clone, Copy)]
 pub struct Powers {
     pub tape: Tape,
     pub first: Handle,

@@ -12,7 +12,7 @@ use std::num::wrapping_add_u64;
 use tape::{MOST_NODES, Operand, Span, Tape};
 
 // What the slices of a pass came to.
-#[derive(Drop)]
+#[derive(Clone, Copy)]
 pub struct Cut {
     pub tape: Tape,
     // How many of them took their nodes from the top, as many as they were to or all that were left.

@@ -9,7 +9,7 @@ ghost use Rattle.dual.specs.Outcome.{cleared_outcome};
 use tape::{Admission, Caller, Lengths, Refusal, Tape};
 
 // What clearing answers: that it was done, or the refusal.
-#[derive(Drop)]
+#[derive(Clone, Copy)]
 pub enum Cleared {
     Done,
     Refused(Refusal),

@@ -13,7 +13,7 @@ use crate::planning::{Planned, Root};
 use tape::{Operand, Refusal, Tape};
 
 // The five passes, under the names of their calls, with the root of those that have one.
-#[derive(Drop)]
+#[derive(Clone, Copy)]
 pub enum Pass {
     Backward(Operand),
     BackwardToMark(Operand),
@@ -23,7 +23,7 @@ pub enum Pass {
 }
 
 // What a pass answers: how many edges it visited, or the refusal.
-#[derive(Drop)]
+#[derive(Clone, Copy)]
 pub enum Passed {
     Visited(u32),
     Refused(Refusal),

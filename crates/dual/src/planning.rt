@@ -15,7 +15,7 @@ use tape::{
 };
 
 // The root of a pass that is let in, if it has one.
-#[derive(Drop)]
+#[derive(Clone, Copy)]
 pub(crate) enum Root {
     None,
     At(Handle),
@@ -23,14 +23,14 @@ pub(crate) enum Root {
 
 // What a pass, its opening or a slice is to do: set the adjoint of the root to one, if there is one, and walk this range
 // or leave it open; or the refusal.
-#[derive(Drop)]
+#[derive(Clone, Copy)]
 pub(crate) enum Planned {
     Refused(Refusal),
     Walk(Root, Span),
 }
 
 // What the search for a root comes to.
-#[derive(Drop)]
+#[derive(Clone, Copy)]
 pub(crate) enum Found {
     Refused(Refusal),
     Root(Root),

@@ -10,14 +10,14 @@ ghost use Rattle.dual.specs.Inner.{behind_node, liveness_of, value_behind, adjoi
 use tape::{Admission, Caller, Handle, Lengths, Lookup, Operand, Refusal, Tape, Usable};
 
 // What a read answers: the number that was asked for, or the refusal.
-#[derive(Drop)]
+#[derive(Clone, Copy)]
 pub enum Read {
     Number(f64),
     Refused(Refusal),
 }
 
 // What is_live finds an operand to be; or the refusal.
-#[derive(Drop)]
+#[derive(Clone, Copy)]
 pub enum Liveness {
     Live,
     Stale,

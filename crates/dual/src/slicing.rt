@@ -13,7 +13,7 @@ use tape::{Refusal, Span, Tape};
 
 // What an opening or a slice answers: how many edges it visited, how many nodes are left, and the state after it; or the
 // refusal and the state as it was. With no node left the walk is over.
-#[derive(Drop)]
+#[derive(Clone, Copy)]
 pub enum Sliced {
     Walked(u32, usize, Tape),
     Refused(Refusal, Tape),

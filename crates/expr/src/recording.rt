@@ -16,7 +16,7 @@ use tape::{Admission, Caller, Handle, Lengths, MOST_EDGES, Operand, Refusal, Tap
 
 // What a recording answers: a value and its node's handle, or a value alone where the tape is inactive, with the state
 // after it; or the refusal and the state as it was.
-#[derive(Drop)]
+#[derive(Clone, Copy)]
 pub enum Recorded {
     Node(f64, Handle, Tape),
     Detached(f64, Tape),
@@ -70,7 +70,7 @@ const LAST_SERIAL: u64 = 18_446_744_073_709_551_615;
 
 // What the operation and its operands come to, before the tape is asked for room: granted, with the node's value and
 // edges beside it, or refused.
-#[derive(Drop)]
+#[derive(Clone, Copy)]
 pub(crate) struct Decision {
     pub admission: Admission,
     pub value: f64,

@@ -3,6 +3,8 @@
 //
 // Every method takes its numbers by value, asks nothing of them, and promises the rule of specs/Forward.antt at its
 // order.
+#![tactic(auto)]
+
 pub mod comparison;
 pub mod order1;
 pub mod order2;

@@ -8,7 +8,7 @@ ghost use Rattle.forward.specs.Number.{number1};
 
 use crate::comparison::Ordering;
 
-#[derive(Drop)]
+#[derive(Clone, Copy)]
 pub struct Fwd1 {
     pub val: f64,
     pub dot: f64,

@@ -9,7 +9,7 @@ ghost use Rattle.forward.specs.Number.{number2};
 use crate::comparison::Ordering;
 use crate::order1::Fwd1;
 
-#[derive(Drop)]
+#[derive(Clone, Copy)]
 pub struct Fwd2 {
     pub val: Fwd1,
     pub dot: Fwd1,

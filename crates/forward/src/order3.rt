@@ -9,7 +9,7 @@ ghost use Rattle.forward.specs.Number.{number3};
 use crate::comparison::Ordering;
 use crate::order2::Fwd2;
 
-#[derive(Drop)]
+#[derive(Clone, Copy)]
 pub struct Fwd3 {
     pub val: Fwd2,
     pub dot: Fwd2,

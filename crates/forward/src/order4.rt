@@ -9,7 +9,7 @@ ghost use Rattle.forward.specs.Number.{number4};
 use crate::comparison::Ordering;
 use crate::order3::Fwd3;
 
-#[derive(Drop)]
+#[derive(Clone, Copy)]
 pub struct Fwd4 {
     pub val: Fwd3,
     pub dot: Fwd3,

@@ -9,14 +9,14 @@ use crate::{digits, flux};
 pub const LONGEST: usize = 19;
 
 // What was read, and how many bytes of a line stand unfinished.
-#[derive(Drop)]
+#[derive(Clone, Copy)]
 pub struct Progress {
     pub reading: Reading,
     pub pending: usize,
 }
 
 // What a line says.
-#[derive(Drop)]
+#[derive(Clone, Copy)]
 pub enum Entry {
     Revolution(u32),
     Interval(u32),

@@ -1,5 +1,7 @@
 // Fits drive speed and bit-cell time to recorded flux, all turns kept: `imaging [-v] FILE.. [--slice N FILE..]`. The
 // files behind `--slice N` are fitted with every pass in slices of N nodes.
+#![tactic(auto)]
+
 mod arguments;
 mod digits;
 mod file;
@@ -25,21 +27,21 @@ use slices::Way;
 use tally::Tally;
 
 // What has been written, and of how many files.
-#[derive(Drop)]
+#[derive(Clone, Copy)]
 pub struct Told {
     pub out: Out,
     pub tally: Tally,
 }
 
 // What has been written, and whether the file was fitted.
-#[derive(Drop)]
+#[derive(Clone, Copy)]
 pub struct Ended {
     pub out: Out,
     pub fitted: bool,
 }
 
 // What is asked of a file's fit: that its steps are shown, and how its passes are taken.
-#[derive(Drop)]
+#[derive(Clone, Copy)]
 pub struct Asked {
     pub verbose: bool,
     pub way: Way,

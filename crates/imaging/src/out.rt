@@ -6,7 +6,7 @@ use crate::digits::Rounded;
 use libc::STDOUT_FILENO;
 
 // Nothing more is written once a write has failed.
-#[derive(Drop)]
+#[derive(Clone, Copy)]
 pub struct Out {
     pub good: bool,
 }

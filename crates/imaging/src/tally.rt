@@ -4,7 +4,7 @@ ghost use Rattle.imaging.specs.Tally.{tallied, files};
 
 use crate::out::Out;
 
-#[derive(Drop)]
+#[derive(Clone, Copy)]
 pub struct Tally {
     pub fitted: usize,
     pub not: usize,

@@ -16,7 +16,7 @@ use tape::{Admission, Caller, Lengths, Refusal, Tape};
 use text::{decimal_length, write_decimal, write_hex, write_text};
 
 // What a listing answers: how many bytes were written, or the refusal.
-#[derive(Drop)]
+#[derive(Clone, Copy)]
 pub enum Listed {
     Written(usize),
     Refused(Refusal),

@@ -18,7 +18,7 @@ const HANDLES: usize = 16;
 const ISSUED_HANDLES: usize = 8;
 
 // The stale handle, and which operands of the call it is.
-#[derive(Drop)]
+#[derive(Clone, Copy)]
 struct Spot {
     stale: Handle,
     left: bool,
@@ -26,14 +26,14 @@ struct Spot {
 }
 
 // Digests of all that is lent for values and adjoints, so that what is written behind the last node is seen.
-#[derive(Drop)]
+#[derive(Clone, Copy)]
 struct Digests {
     values: u64,
     adjoints: u64,
 }
 
 // What a call answered, and whether it left the tape as it was.
-#[derive(Drop)]
+#[derive(Clone, Copy)]
 pub struct Made {
     pub answer: Said,
     pub same_state: bool,
@@ -42,7 +42,7 @@ pub struct Made {
 }
 
 // What came of a handle, with the number of the refusal that it has to get.
-#[derive(Drop)]
+#[derive(Clone, Copy)]
 pub struct Got {
     pub handle: Handle,
     pub wanted: u64,

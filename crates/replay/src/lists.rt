@@ -9,7 +9,7 @@ use crate::{cases, report};
 const LONGEST: usize = 2_097_152;
 
 // How far the reading has come: what is counted, and how many bytes of a case stand unfinished.
-#[derive(Drop)]
+#[derive(Clone, Copy)]
 struct Progress {
     tally: Tally,
     pending: usize,

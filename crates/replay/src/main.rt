@@ -1,4 +1,6 @@
 // Replays recorded answers of the Rust with the port's own calls, and compares every word of them (docs/REPLAY.md).
+#![tactic(auto)]
+
 mod calls;
 mod carry_out;
 mod cases;

@@ -21,7 +21,7 @@ const SLOTS: usize = 2 * CAPACITY;
 const NODES: usize = 32_768;
 
 // How far a sequence has come.
-#[derive(Drop)]
+#[derive(Clone, Copy)]
 pub struct Run {
     pub way: Way,
     pub tape: Tape,

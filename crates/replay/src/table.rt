@@ -13,7 +13,7 @@ const ZERO: u64 = 0;
 const ONE: u64 = 0x3ff0_0000_0000_0000;
 
 // The letters of a case's operands, n for one on the tape and p for a plain number. A single operand stands in both.
-#[derive(Drop)]
+#[derive(Clone, Copy)]
 struct Form {
     left: u8,
     right: u8,

@@ -10,7 +10,7 @@ use crate::{lent, report};
 const MOST_CASES: u64 = 1_000_000;
 
 // What is counted of a file. A count stops at its largest number, which no file reaches.
-#[derive(Drop)]
+#[derive(Clone, Copy)]
 pub struct Tally {
     pub cases: u64,
     pub answered: u64,

@@ -5,7 +5,7 @@ use crate::lent::MOST_LISTING;
 use text::{Parsed, read_digits, read_hex};
 
 // How many bytes the session of a case has, and how many are lent for its listing.
-#[derive(Drop)]
+#[derive(Clone, Copy)]
 pub struct Case {
     pub is_there: bool,
     pub length: usize,
@@ -20,7 +20,7 @@ const NO_CASE: Case = Case {
 };
 
 // A number that a session answers, and the digest of all bytes that are lent to it.
-#[derive(Drop)]
+#[derive(Clone, Copy)]
 pub struct Outcome {
     pub number: u64,
     pub digest: u64,
@@ -134,7 +134,7 @@ fn read_line(file: i32, line: &mut [u8]) -> usize
 }
 
 // What a file has next.
-#[derive(Drop)]
+#[derive(Clone, Copy)]
 enum Next {
     Byte(u8),
     End,

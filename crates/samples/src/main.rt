@@ -1,5 +1,7 @@
 // Sessions, handed to the export as a C host hands them over. Among the samples is each answer that a session can get;
 // the damaged sessions are compared with a second reading of the papers (host/reckon).
+#![tactic(auto)]
+
 mod answer;
 mod cases;
 mod files;

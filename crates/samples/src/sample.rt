@@ -6,7 +6,7 @@ use crate::lent::MOST_LISTING;
 use crate::{lent, report};
 
 // As the call left it or, for a control, with its last byte changed.
-#[derive(Drop)]
+#[derive(Clone, Copy)]
 pub enum Output {
     Kept,
     Spoiled,

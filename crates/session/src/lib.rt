@@ -1,4 +1,6 @@
 // Session files: a session as text is run on a tape of 1,024 nodes, and the tape is listed.
+#![tactic(auto)]
+
 mod lines;
 mod reading;
 mod running;

@@ -9,7 +9,7 @@ use crate::running::run_line;
 use tape::Tape;
 
 // What the lines came to: the state after the last, or the number of the first refusal and its line.
-#[derive(Drop)]
+#[derive(Clone, Copy)]
 pub(crate) enum Outcome {
     Ended(Tape),
     Stopped(u8, u32),

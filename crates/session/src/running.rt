@@ -17,14 +17,14 @@ use listing::float_of;
 use tape::{Handle, Moved, Operand, Refusal, Tape};
 
 // What a line came to: 0 or the number of its refusal, and the state after it.
-#[derive(Drop)]
+#[derive(Clone, Copy)]
 pub(crate) struct Ran {
     pub number: u8,
     pub tape: Tape,
 }
 
 // The call that a line names.
-#[derive(Drop)]
+#[derive(Clone, Copy)]
 pub(crate) enum Call {
     Record(u8, Operand, Operand),
     Move(Move),
@@ -35,7 +35,7 @@ pub(crate) enum Call {
 }
 
 // The moves that a line can name.
-#[derive(Drop)]
+#[derive(Clone, Copy)]
 pub(crate) enum Move {
     SetMark,
     ResetMark,

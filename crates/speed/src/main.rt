@@ -1,6 +1,8 @@
 // Records, walks and rewinds a full tape as often as it is told, takes as many square roots, or lists a full tape. A
 // line of standard input names a plan and a number of rounds, as `near 100`, and a line of output says what they came
 // to. There is no clock here: bench/ measures from outside, and bench/run the Rust as well (docs/SPEED.md).
+#![tactic(auto)]
+
 mod listings;
 mod plan;
 mod report;

@@ -9,7 +9,7 @@ use crate::node::{MOST_EDGES, MOST_NODES};
 use crate::tape::{Tape, Walk};
 
 // Which call asks to be let in. A pass asks alike whether it is opened or goes on to its end.
-#[derive(Drop)]
+#[derive(Clone, Copy)]
 pub enum Caller {
     Start,
     Move,
@@ -25,7 +25,7 @@ pub enum Caller {
 }
 
 // The lengths of the six lent arrays.
-#[derive(Drop)]
+#[derive(Clone, Copy)]
 pub struct Lengths {
     pub value: usize,
     pub adjoint: usize,
@@ -36,7 +36,7 @@ pub struct Lengths {
 }
 
 // A call is let in, or refused at the head.
-#[derive(Drop)]
+#[derive(Clone, Copy)]
 pub enum Admission {
     Granted,
     Refused(Refusal),

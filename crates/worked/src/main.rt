@@ -1,5 +1,7 @@
 // Document 01's worked example by the public calls on real arrays: how many edges the pass visited, how many bytes the
 // listing has, and the listing, which is document 01's text byte for byte.
+#![tactic(auto)]
+
 mod session;
 
 fn main() {

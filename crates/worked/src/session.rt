@@ -6,14 +6,14 @@ use listing::Listed;
 use tape::{Handle, Moved, Operand, Refusal, Tape};
 
 // A node that was recorded, and the state after it.
-#[derive(Drop)]
+#[derive(Clone, Copy)]
 pub struct Noted {
     pub tape: Tape,
     pub handle: Handle,
 }
 
 // The two leaves: the first one's handle, and the second with the state.
-#[derive(Drop)]
+#[derive(Clone, Copy)]
 pub struct Leaves {
     pub first: Handle,
     pub second: Noted,
