@@ -4,7 +4,7 @@ use Prim.Native.Nat.{ℕ, zero, suc, ◌+◌, ◌-◌, ◌≤◌, ◌<◌, zero-
 use native.Mathlib.Nat.{zero-add, add-zero, add-suc, suc-add, sub_self, add-sub_of_le}
 use native.Mathlib.Omega.{arith}
 use mathlib.Core.Path.{◌≡◌, refl, sym, ap, subst, ◌∙◌}
-use mathlib.Core.Bool.{true, false, true≢false, and-eq-true_iff}
+use mathlib.Core.Bool.{true, true≢false, and-eq-true_iff}
 use mathlib.Core.List.{List, [], ◌∷◌, ◌++◌, map, map-append}
 use mathlib.Core.Option.{some, none}
 use borrow.Author.Tests.{ltb-true}
@@ -18,7 +18,7 @@ use Rattle.tape.specs.Walk.{Edge, push, walk, edges_from, edges_at, indexes, sum
 use Rattle.tape.specs.Answers.{Answer, number, done, counted}
 use Rattle.tape.specs.Calls.{reset_mark, Pass, backward, backward_to_mark, backward_mark_to_start, propagate_to_mark, propagate_mark_to_start, Call, move, operate, clear, pass, open_pass, slice, value_of_lem, adjoint_of, is_live, list, moved, with_adjoints, Plan, plan, range, seeded, walked, left_of, slice_plan, carried}
 use Rattle.tape.specs.Admission.{walk_fits, let_in}
-use Rattle.tape.specs.Refusals.{refusal_of, asked, unknown, first_amiss, too_long}
+use Rattle.tape.specs.Refusals.{refusal_of, asked, first_amiss}
 use Rattle.tape.specs.Steps.{step, run}
 use Rattle.tape.specs.Kept.{fresh, after}
 use Rattle.tape.specs.Passes.{EachEdge, push_edge_by_edge, OnlyAdjoints, EmptyRange, BothRanges, NeverUnsound, Unrefused, counts, in_one, in_two}
