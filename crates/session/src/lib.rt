@@ -7,7 +7,7 @@ mod running;
 
 ghost use Rattle.std.specs.Prelude.{◌≤◌, ◌<◌, [], ◌∷◌, ◌≡◌, length};
 ghost use Rattle.tape.specs.Numbers.{floats};
-ghost use Rattle.tape.specs.Machine.{Arrays, machine, lent_before};
+ghost use Rattle.tape.specs.Machine.{Arrays, machine, lent_arrays};
 ghost use Rattle.tape.specs.Answers.{outcome};
 ghost use Rattle.tape.specs.Calls.{move, start};
 ghost use Rattle.tape.specs.Kept.{fresh, after};
@@ -68,7 +68,7 @@ fn run_and_list(
 ) -> u32
     requires { length session.now ≤ most_session }
     ensures { (result, listing.new)
-        ≡ reported (run_lines reading 1 (lines session.now) (after (move start ∷ []) (fresh (lent_before value adjoint serial count child partial)))) listing.old }
+        ≡ reported (run_lines reading 1 (lines session.now) (after (move start ∷ []) (fresh (lent_arrays value.old adjoint.old serial.old count.old child.old partial.old)))) listing.old }
 {
     let tape = begun(Tape::new().start_recording());
     match run_lines(session, tape, value, adjoint, serial, count, child, partial) {
@@ -102,7 +102,7 @@ fn list(
     listing: &mut [u8],
 ) -> u32
     ensures { (result, listing.new)
-        ≡ reported (ended (machine tape (lent_before value adjoint serial count child partial))) listing.old }
+        ≡ reported (ended (machine tape (lent_arrays value.now adjoint.now serial.now count.now child.now partial.now))) listing.old }
 {
     match listing::listing::list(tape, value, adjoint, serial, count, child, partial, listing) {
         Listed::Written(bytes) => bytes as u32,

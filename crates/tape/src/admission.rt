@@ -1,7 +1,7 @@
 // The admission: what is asked at the head of every call, which is told which call asks and how long the arrays are
 // that it is lent.
 ghost use Rattle.std.specs.Prelude.{◌≡◌, true};
-ghost use Rattle.tape.specs.Machine.{all, lent_before};
+ghost use Rattle.tape.specs.Machine.{all, lent_arrays};
 ghost use Rattle.tape.specs.Admission.{lengths, is_lent, walk_fits, state_fits, fitting, while_open, while_closed, in_turn, slice_fits, admission, admitted};
 
 use crate::errors::Refusal;
@@ -62,7 +62,7 @@ impl Lengths {
         child: &[u16],
         partial: &[f64],
     ) -> Lengths
-        ensures { result ≡ lengths (lent_before value adjoint serial count child partial) }
+        ensures { result ≡ lengths (lent_arrays value.now adjoint.now serial.now count.now child.now partial.now) }
     {
         Lengths {
             value: value.len(),
