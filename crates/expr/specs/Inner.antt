@@ -4,7 +4,7 @@ use Rattle.std.specs.Prelude.{ℕ, ◌+◌, ◌≤◌, ◌<◌, ◌≡◌, Bool,
 use Rattle.std.proofs.Math.Option.{Option, none, some}
 use Rattle.std.specs.Float.{nan}
 use Rattle.tape.specs.Numbers.{floats}
-use Rattle.tape.specs.Machine.{Arrays, Machine, arrays, capacity, slot, most_nodes, most_edges}
+use Rattle.tape.specs.Machine.{Arrays, Machine, capacity, slot, most_nodes, most_edges}
 use Rattle.tape.specs.Handles.{usable_as}
 use Rattle.tape.specs.Handles as Handles
 use Rattle.tape.specs.Operations.{row, known, apply}
