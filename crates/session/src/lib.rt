@@ -24,8 +24,7 @@ use tape::{MOST_EDGES, Moved, Refusal, Tape};
 // session of over 65,536 bytes; 3 for an index not below the length; 5 past 1,024 nodes; and with line 0, 8 where the
 // listing does not fit. In the promise R is what reads a line: the inverse of the lines' texts, of which there is one
 // and no other (`OneReader` of specs/Lines.antt).
-#[unsafe(no_mangle)]
-pub extern "C" fn ingthabor_session(session: &[u8], listing: &mut [u8]) -> u32
+pub fn ingthabor_session(session: &[u8], listing: &mut [u8]) -> u32
     ensures { (R : Reader) → (result, listing.new) ≡ answered R session.now listing.old }
 {
     if MOST_SESSION < session.len() {

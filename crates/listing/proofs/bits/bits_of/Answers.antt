@@ -1,12 +1,10 @@
 -- Only a NaN differs from itself, and its bits are those that the code answers.
 use mathlib.Core.Path.{◌≡◌, sym, ap, subst}
 use mathlib.Core.Bool.{true, false, not}
-use borrow.Author.Rules.{rules}
 use lib.Dec.{T}
 use lib.Ieee.{Float, nan, inf, fin, binary64, eq, ne, is_nan, to_bits}
 use lib.Ieee.Compare.{differs_from_itself}
-use Rattle.listing.proofs.bits.bits_of.Statement.{statement}
-use Rattle.listing.proofs.bits.bits_of.Tie as tie
+use Rattle.listing.proofs.bits.bits_of.Goals as goal
 
 nan_bits : (x : Float) → ne x x ≡ true → to_bits binary64 nan ≡ to_bits binary64 x
 nan_bits x e = ap (to_bits binary64) (sym (differs_from_itself x (subst T (sym e) tt)))
@@ -17,9 +15,9 @@ no_nan nan e = subst T e tt
 no_nan (inf s) e = tt
 no_nan (fin s m d) e = tt
 
-returns : tie.Need-returns
+pub returns-then-x : goal.returns-then-x
 unfolding to_bits
-returns c = nan_bits c.before.args.x c.if1.true
+returns-then-x c = nan_bits c.args.x c.if-x.true
 
-pub bits-of-spec : {M : Type 1} → statement M
-bits-of-spec = tie.close (tie.spec returns (λ c. no_nan c.before.args.x c.if1.false) (λ c. search rules))
+pub float_to_bits-result : goal.float_to_bits-result
+float_to_bits-result c = no_nan c.args.x c.if-x.false
