@@ -11,7 +11,7 @@ use Rattle.tape.specs.Numbers.{floats}
 use Rattle.tape.specs.Machine.{Machine}
 use Rattle.tape.specs.Handles.{operand, live, amiss, looked_up, counted_as}
 use Rattle.tape.specs.Answers.{done, read_value, counted}
-use Rattle.tape.specs.Calls.{clear, with_adjoints, value_of_lem, adjoint_of, is_live}
+use Rattle.tape.specs.Calls.{clear, with_adjoints, value_of, adjoint_of, is_live}
 use Rattle.tape.specs.Admission.{lengths, admission, admitted, let_in, first}
 use Rattle.tape.specs.Steps.{unless, step}
 use Rattle.tape.specs.declared.errors.Refusal.{Refusal}
@@ -57,7 +57,7 @@ module _ (M : Machine floats) where
   pub clearable : let_in caller.Clearing M ≡ none → M.state.length ≤ length M.lent.adjoint
   clearable e = let f : Fit M = fit M (granted_shape caller.Clearing M e) in omega arith
 
-  pub value_so : (x : code.Operand) → let_in caller.Value M ≡ none → read_outcome (value_behind M.state M.lent.serial M.lent.value x) M ≡ step (value_of_lem (operand x)) M
+  pub value_so : (x : code.Operand) → let_in caller.Value M ≡ none → read_outcome (value_behind M.state M.lent.serial M.lent.value x) M ≡ step (value_of (operand x)) M
   unfolding step
   value_so (Number v) e = rw e
   value_so (Node h) e = rw e (by_life (live M h) (amiss M.state h) (get_or M.lent.value h.index nan) M)

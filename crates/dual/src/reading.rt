@@ -2,7 +2,7 @@
 ghost use Rattle.std.specs.Prelude.{◌≤◌, ◌≡◌, length};
 ghost use Rattle.tape.specs.Machine.{machine, lent_arrays};
 ghost use Rattle.tape.specs.Handles.{operand};
-ghost use Rattle.tape.specs.Calls.{value_of_lem, adjoint_of, is_live};
+ghost use Rattle.tape.specs.Calls.{value_of, adjoint_of, is_live};
 ghost use Rattle.tape.specs.Steps.{step};
 ghost use Rattle.dual.specs.Outcome.{read_outcome, liveness_outcome};
 ghost use Rattle.dual.specs.Inner.{behind_node, liveness_of, value_behind, adjoint_behind, liveness_behind};
@@ -39,7 +39,7 @@ pub fn value(
     x: Operand,
 ) -> Read
     ensures { read_outcome result (machine tape (lent_arrays value.now adjoint.now serial.now count.now child.now partial.now))
-        ≡ step (value_of_lem (operand x)) (machine tape (lent_arrays value.now adjoint.now serial.now count.now child.now partial.now)) }
+        ≡ step (value_of (operand x)) (machine tape (lent_arrays value.now adjoint.now serial.now count.now child.now partial.now)) }
 {
     match tape.admit(
         Caller::Value,
