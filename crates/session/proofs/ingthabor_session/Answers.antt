@@ -1,9 +1,7 @@
 -- Whichever reader is asked (proofs/Answered.antt).
-use borrow.Author.Rules.{rules}
-use mathlib.Core.Path.{ap, ◌∙◌}
-use Rattle.session.specs.Session.{refusal}
-use Rattle.session.proofs.Answered.{overlong, in_turn}
+use mathlib.Core.Path.{◌∙◌}
+use Rattle.session.proofs.Answered.{in_turn}
 use Rattle.session.proofs.ingthabor_session.Goals as goal
 
 pub returns : goal.returns
-returns c = let a = c.args in c.run_and_list.ensures ∙ in_turn R a.session.now a.listing-1.now c.if-session-gt-MOST_SESSION.false
+returns c = λ R. c.run_and_list.ensures ∙ in_turn R c.args.session.now c.args.listing.now c.if-session-gt-MOST_SESSION.false

@@ -1,19 +1,15 @@
 -- What is left to be run comes to what the whole comes to (`Running`).
-use Prim.Native.Nat.{ℕ, ◌-◌, ◌≤◌, ◌<◌}
-use native.Mathlib.Omega.{arith}
-use mathlib.Core.Path.{◌≡◌, ap, ◌∙◌}
-use mathlib.Core.List.{List}
-use borrow.Author.Rules.{rules}
+use Prim.Native.Nat.{◌-◌}
+use mathlib.Core.Path.{◌≡◌}
 use lib.ListN.{length}
-use Rattle.tape.specs.Numbers.{floats}
-use Rattle.tape.specs.Machine.{Machine, arrays, machine}
-use Rattle.session.specs.Session.{lines, run_read, run_lines}
-use Rattle.session.specs.Inner.{read_line, line_of, reading, told}
-use Rattle.session.proofs.Turns.{Running, line_at, cut_so, further, none_ran, one_ran, one_stopped, all_ran}
+use Rattle.tape.specs.Machine.{arrays, machine}
+use Rattle.session.specs.Session.{lines, run_lines}
+use Rattle.session.specs.Inner.{reading}
+use Rattle.session.proofs.Turns.{Running}
 use Rattle.session.proofs.lines.run_lines.Given as goal
 
 abbrev pub invariant-loop-at : goal.invariant-loop-at
-invariant-loop-at l =     Running l.session (run_lines reading 1 (lines l.session) (machine l.initial.state (arrays l.initial.value l.initial.adjoint l.initial.serial l.initial.count l.initial.child l.initial.partial))) l.at l.line (machine l.state (arrays l.value l.adjoint l.serial l.count l.child l.partial))
+invariant-loop-at l = Running l.session (run_lines reading 1 (lines l.session) (machine l.initial.state (arrays l.initial.value l.initial.adjoint l.initial.serial l.initial.count l.initial.child l.initial.partial))) l.at l.line (machine l.state (arrays l.value l.adjoint l.serial l.count l.child l.partial))
     × (length l.value ≡ length l.initial.value)
     × (length l.adjoint ≡ length l.initial.adjoint)
     × (length l.serial ≡ length l.initial.serial)
@@ -22,4 +18,4 @@ invariant-loop-at l =     Running l.session (run_lines reading 1 (lines l.sessio
     × (length l.partial ≡ length l.initial.partial)
 
 abbrev pub decreases-loop-at : goal.decreases-loop-at
-decreases-loop-at l =     length l.session - l.at
+decreases-loop-at l = length l.session - l.at
