@@ -51,6 +51,7 @@ pub struct Got {
 }
 
 pub(crate) fn replay(
+    rt: &impl Print,
     run: Run,
     list: &[u8],
     value: &mut [f64],
@@ -67,7 +68,7 @@ pub(crate) fn replay(
         run.tape, value, adjoint, serial, count, child, partial, run.last,
     );
     each_handle(
-        run, spot, list, value, adjoint, serial, count, child, partial,
+        rt, run, spot, list, value, adjoint, serial, count, child, partial,
     )
 }
 
@@ -119,6 +120,7 @@ fn handle_of(x: Operand) -> Handle {
 }
 
 fn each_handle(
+    rt: &impl Print,
     before: Run,
     spot: Spot,
     list: &[u8],
@@ -133,13 +135,14 @@ fn each_handle(
     let end = handles_of(before);
     for number in 1..end {
         run = one_handle(
-            run, spot, number, list, value, adjoint, serial, count, child, partial,
+            rt, run, spot, number, list, value, adjoint, serial, count, child, partial,
         );
     }
     run
 }
 
 fn one_handle(
+    rt: &impl Print,
     run: Run,
     spot: Spot,
     number: usize,
@@ -159,6 +162,7 @@ fn one_handle(
         run.tape, value, adjoint, serial, count, child, partial, task,
     );
     run.tried(
+        rt,
         list,
         Got {
             handle,
