@@ -4,7 +4,9 @@
 
 mod session;
 
-fn main() {
+use std::io;
+
+fn main(rt: HostRuntime) -> io::Result<()> {
     let mut value = [0.0; 5];
     let mut adjoint = [0.0; 5];
     let mut serial = [0u64; 5];
@@ -12,11 +14,12 @@ fn main() {
     let mut child = [0u16; 10];
     let mut partial = [0.0; 10];
     session::run(
+        &rt,
         &mut value,
         &mut adjoint,
         &mut serial,
         &mut count,
         &mut child,
         &mut partial,
-    );
+    )
 }
