@@ -17,9 +17,17 @@ prove_program() {
     }
 }
 
-# Runs crates/NAME/out/NAME in the folder that it is called from: run_program NAME ARGS..
+# Where the kit keeps its loader and C library, which may be newer than the machine's.
+kit_libraries() {
+    local guide
+    guide=$(rt doc) || return
+    echo "${guide%/*}/toolchain/lib"
+}
+
+# Runs crates/NAME/out/NAME under them, in the folder that it is called from: run_program NAME ARGS..
 run_program() {
-    local program=$repository/crates/$1/out/$1
+    local libraries program=$repository/crates/$1/out/$1
+    libraries=$(kit_libraries) || return
     shift
-    "$program" "$@"
+    "$libraries/ld-linux-x86-64.so.2" --library-path "$libraries" "$program" "$@"
 }
