@@ -10,6 +10,7 @@ pub mod order1;
 pub mod order2;
 pub mod order3;
 pub mod order4;
+mod remainder;
 
 pub use comparison::Ordering;
 pub use order1::Fwd1;
