@@ -1,29 +1,33 @@
-# Read by scripts that prove a program of this repository and run it as `rt` does, under the kit's own loader and C library.
+# Read by scripts that prove a program of this repository and run what was built.
 
 repository=$(cd "$(dirname "${BASH_SOURCE[0]}")/.." && pwd)
 
-# Proves and builds a program, and says what went wrong only where something did: prove_program NAME
+# Proves and builds a program, and says all that rt says of it: build_program NAME
+# `rt run` also runs it, here with no input and no arguments. What was proved and built before is only run.
+build_program() {
+    (cd "$repository/crates/$1" && rt run 2>&1 </dev/null)
+}
+
+# The same, and says what went wrong only where something did: prove_program NAME
 prove_program() {
     local said
-    said=$(cd "$repository" && rt check "$1" 2>&1) || {
+    said=$(build_program "$1") || {
         printf '%s\n' "$said" >&2
         return 1
     }
 }
 
-# The kit's tools for this machine.
-kit_tools() {
+# Where the kit keeps its loader and C library, which may be newer than the machine's.
+kit_libraries() {
     local guide
     guide=$(rt doc) || return
-    echo "${guide%/docs/*}/on/$(uname -m)/toolchain"
+    echo "${guide%/*}/toolchain/lib"
 }
 
-# Runs target/bin/NAME in the folder that it is called from: run_program NAME ARGS..
+# Runs crates/NAME/out/NAME under them, in the folder that it is called from: run_program NAME ARGS..
 run_program() {
-    local tools emulator=() program=$repository/target/bin/$1
+    local libraries program=$repository/crates/$1/out/$1
+    libraries=$(kit_libraries) || return
     shift
-    tools=$(kit_tools) || return
-    # Programs are for x86-64. On another processor the kit has an emulator.
-    [ ! -x "$tools/bin/qemu-x86_64" ] || emulator=("$tools/bin/qemu-x86_64")
-    "${emulator[@]}" "$tools/lib/ld-linux-x86-64.so.2" --library-path "$tools/lib" "$program" "$@"
+    "$libraries/ld-linux-x86-64.so.2" --library-path "$libraries" "$program" "$@"
 }

@@ -7,7 +7,7 @@ use tape::{Handle, MOST_NODES, Tape};
 // One entry more than a tape can have.
 pub const TOO_MANY: usize = MOST_NODES + 1;
 
-#[derive(Drop)]
+#[derive(Clone, Copy)]
 pub struct Filled {
     pub tape: Tape,
     pub first: Handle,

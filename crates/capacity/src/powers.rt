@@ -4,6 +4,7 @@ use crate::report;
 use expr::operators::new_leaf;
 use expr::recording::record;
 use expr::{MULTIPLY, Recorded, Supplied};
+use std::io;
 use tape::{Handle, MOST_NODES, Operand, Tape};
 
 pub const N: usize = MOST_NODES;
@@ -13,7 +14,7 @@ const X: f64 = 0.9999;
 
 // The first and the last power. Every adjoint is made of the one above it, and the first node's is a sum over all of
 // them, so that a node left out, walked twice or out of order shows.
-#[derive(Drop)]
+#[derive(Clone, Copy)]
 pub struct Powers {
     pub tape: Tape,
     pub first: Handle,
@@ -21,28 +22,30 @@ pub struct Powers {
 }
 
 pub(crate) fn fill(
+    rt: &impl Print,
     value: &mut [f64],
     adjoint: &mut [f64],
     serial: &mut [u64],
     count: &mut [u8],
     child: &mut [u16],
     partial: &mut [f64],
-) -> Powers {
-    let first = first_power(value, adjoint, serial, count, child, partial);
-    raise(first, value, adjoint, serial, count, child, partial)
+) -> io::Result<Powers> {
+    let first = first_power(rt, value, adjoint, serial, count, child, partial)?;
+    Ok(raise(first, value, adjoint, serial, count, child, partial))
 }
 
 fn first_power(
+    rt: &impl Print,
     value: &mut [f64],
     adjoint: &mut [f64],
     serial: &mut [u64],
     count: &mut [u8],
     child: &mut [u16],
     partial: &mut [f64],
-) -> Powers {
-    let tape = report::moved(N, b"start", Tape::new().start_recording());
+) -> io::Result<Powers> {
+    let tape = report::moved(rt, N, b"start", Tape::new().start_recording())?;
     let leaf = new_leaf(tape, value, adjoint, serial, count, child, partial, X);
-    Powers::none(tape).with(leaf)
+    Ok(Powers::none(tape).with(leaf))
 }
 
 fn raise(

@@ -6,6 +6,7 @@ use expr::recording::record;
 use expr::{ADD, SQRT, Supplied};
 use listing::bits_of;
 use listing::listing::list;
+use std::io;
 use tape::{MOST_EDGES, Operand, Span, Tape, Walk};
 
 // The capacity, of which two nodes leave room for a third.
@@ -16,19 +17,24 @@ pub const SLOTS: usize = MOST_EDGES * N;
 // The first number that there is no operation for.
 const UNKNOWN: u8 = 11;
 
-pub(crate) fn run() {
-    recording(b"operation 10", two_nodes(), SQRT);
-    recording(b"operation 11", two_nodes(), UNKNOWN);
-    recording(b"operation 255", two_nodes(), u8::MAX);
-    recording(b"last serial but one", with_next(u64::MAX - 1, true), ADD);
-    recording(b"last serial", with_next(u64::MAX, true), ADD);
-    recording(b"last serial, stopped", with_next(u64::MAX, false), ADD);
-    walking(b"two edges, both down", 2, 0);
-    walking(b"three edges", 3, 0);
-    walking(b"an edge to its own node", 2, 1);
-    walking(b"an edge up", 2, 2);
-    writing(b"listing", two_nodes(), 122);
-    writing(b"listing, a byte too long", two_nodes(), 121);
+pub(crate) fn run(rt: &impl Print) -> io::Result<()> {
+    recording(rt, b"operation 10", two_nodes(), SQRT)?;
+    recording(rt, b"operation 11", two_nodes(), UNKNOWN)?;
+    recording(rt, b"operation 255", two_nodes(), u8::MAX)?;
+    recording(
+        rt,
+        b"last serial but one",
+        with_next(u64::MAX - 1, true),
+        ADD,
+    )?;
+    recording(rt, b"last serial", with_next(u64::MAX, true), ADD)?;
+    recording(rt, b"last serial, stopped", with_next(u64::MAX, false), ADD)?;
+    walking(rt, b"two edges, both down", 2, 0)?;
+    walking(rt, b"three edges", 3, 0)?;
+    walking(rt, b"an edge to its own node", 2, 1)?;
+    walking(rt, b"an edge up", 2, 2)?;
+    writing(rt, b"listing", two_nodes(), 122)?;
+    writing(rt, b"listing, a byte too long", two_nodes(), 121)
 }
 
 // Two nodes, as two leaves leave them.
@@ -45,27 +51,29 @@ pub(crate) fn with_next(next: u64, active: bool) -> Tape {
 }
 
 // Records an operation on plain numbers.
-pub(crate) fn recording(call: &[u8], tape: Tape, op: u8) {
+pub(crate) fn recording(rt: &impl Print, call: &[u8], tape: Tape, op: u8) -> io::Result<()> {
     let serials = [7u64; N];
     recording_of(
+        rt,
         call,
         tape,
         serials,
         op,
         Operand::Number(2.5),
         Operand::Number(1.0),
-    );
+    )
 }
 
 // Records an operation on arrays with these serials.
 pub(crate) fn recording_of(
+    rt: &impl Print,
     call: &[u8],
     tape: Tape,
     serials: [u64; N],
     op: u8,
     left: Operand,
     right: Operand,
-) {
+) -> io::Result<()> {
     let mut value = [3.0; N];
     let mut adjoint = [0.5; N];
     let mut serial = serials;
@@ -85,7 +93,7 @@ pub(crate) fn recording_of(
         right,
         Supplied::NONE,
     );
-    let after = report::recorded(N, call, answer);
+    let after = report::recorded(rt, N, call, answer)?;
     let kept = is_state(after, tape)
         & is_floats(&value, 3.0)
         & is_floats(&adjoint, 0.5)
@@ -93,12 +101,12 @@ pub(crate) fn recording_of(
         & is_counts(&count, 1)
         & is_children(&child, 9)
         & is_partials(&partial, 0.7);
-    report::kept(N, call, kept);
+    report::kept(rt, N, call, kept)
 }
 
 // Walks the whole tape, whose second node has so many edges, the last of them to `to`. A walk is lent the adjoints
 // alone to write.
-fn walking(call: &[u8], edges: u8, to: u16) {
+fn walking(rt: &impl Print, call: &[u8], edges: u8, to: u16) -> io::Result<()> {
     let value = [3.0; N];
     let mut adjoint = [0.5; N];
     let serial = [7u64; N];
@@ -116,12 +124,12 @@ fn walking(call: &[u8], edges: u8, to: u16) {
         &child,
         &partial,
     );
-    report::passed(N, call, answer);
-    report::kept(N, call, is_floats(&adjoint, 0.5));
+    report::passed(rt, N, call, answer)?;
+    report::kept(rt, N, call, is_floats(&adjoint, 0.5))
 }
 
 // Writes the listing of the two nodes into the first `room` of 128 bytes. It is lent nothing else to write.
-pub(crate) fn writing(call: &[u8], tape: Tape, room: usize) {
+pub(crate) fn writing(rt: &impl Print, call: &[u8], tape: Tape, room: usize) -> io::Result<()> {
     let value = [3.0; N];
     let adjoint = [0.5; N];
     let serial = [7u64; N];
@@ -131,7 +139,7 @@ pub(crate) fn writing(call: &[u8], tape: Tape, room: usize) {
     let mut out = [b'.'; 128];
     let all: &mut [u8] = &mut out;
     if room > all.len() {
-        return;
+        return Ok(());
     }
     let answer = list(
         tape,
@@ -143,8 +151,8 @@ pub(crate) fn writing(call: &[u8], tape: Tape, room: usize) {
         &partial,
         &mut all[0..room],
     );
-    report::listed(N, call, answer);
-    report::kept(N, call, is_bytes(&*all, b'.'));
+    report::listed(rt, N, call, answer)?;
+    report::kept(rt, N, call, is_bytes(&*all, b'.'))
 }
 
 pub(crate) fn is_state(a: Tape, b: Tape) -> bool {

@@ -8,11 +8,12 @@ use dual::clearing::reset_adjoints;
 use dual::passes::backward;
 use dual::slicing::{open_pass, take_slice};
 use dual::{Pass, Sliced, reading};
+use std::io;
 use std::num::wrapping_add_u64;
 use tape::{MOST_NODES, Operand, Span, Tape};
 
 // What the slices of a pass came to.
-#[derive(Drop)]
+#[derive(Clone, Copy)]
 pub struct Cut {
     pub tape: Tape,
     // How many of them took their nodes from the top, as many as they were to or all that were left.
@@ -22,22 +23,24 @@ pub struct Cut {
 }
 
 pub(crate) fn run(
+    rt: &impl Print,
     value: &mut [f64],
     adjoint: &mut [f64],
     serial: &mut [u64],
     count: &mut [u8],
     child: &mut [u16],
     partial: &mut [f64],
-) {
+) -> io::Result<()> {
     // The largest capacity alone: a slice can be as long as its tape, and none longer.
     if value.len() != N {
-        return;
+        return Ok(());
     }
-    let powers = powers::fill(value, adjoint, serial, count, child, partial);
-    pass_over(powers, value, adjoint, serial, count, child, partial);
+    let powers = powers::fill(rt, value, adjoint, serial, count, child, partial)?;
+    pass_over(rt, powers, value, adjoint, serial, count, child, partial)
 }
 
 fn pass_over(
+    rt: &impl Print,
     powers: Powers,
     value: &[f64],
     adjoint: &mut [f64],
@@ -45,23 +48,24 @@ fn pass_over(
     count: &[u8],
     child: &[u16],
     partial: &[f64],
-) {
-    report::last_power(N, powers);
-    in_one_go(powers, value, adjoint, serial, count, child, partial);
+) -> io::Result<()> {
+    report::last_power(rt, N, powers)?;
+    in_one_go(rt, powers, value, adjoint, serial, count, child, partial)?;
     let mut whole = [0.0; N];
     copy(adjoint, &mut whole);
     let tape = powers.tape;
     let last = powers.last;
     let root = Operand::Node(last);
     let over = in_slices_of_one(
-        tape, value, adjoint, serial, count, child, partial, root, &whole,
-    );
+        rt, tape, value, adjoint, serial, count, child, partial, root, &whole,
+    )?;
     in_larger_slices(
-        over, value, adjoint, serial, count, child, partial, root, &whole,
-    );
+        rt, over, value, adjoint, serial, count, child, partial, root, &whole,
+    )
 }
 
 fn in_one_go(
+    rt: &impl Print,
     powers: Powers,
     value: &[f64],
     adjoint: &mut [f64],
@@ -69,19 +73,20 @@ fn in_one_go(
     count: &[u8],
     child: &[u16],
     partial: &[f64],
-) {
+) -> io::Result<()> {
     let tape = powers.tape;
     let first = powers.first;
     let last = powers.last;
     let root = Operand::Node(last);
     let passed = backward(tape, value, adjoint, serial, count, child, partial, root);
-    report::passed(N, b"backward", passed);
+    report::passed(rt, N, b"backward", passed)?;
     let leaf = Operand::Node(first);
     let read = reading::adjoint(tape, value, adjoint, serial, count, child, partial, leaf);
-    report::read(N, b"adjoint of the first power", read);
+    report::read(rt, N, b"adjoint of the first power", read)
 }
 
 fn in_slices_of_one(
+    rt: &impl Print,
     tape: Tape,
     value: &[f64],
     adjoint: &mut [f64],
@@ -91,10 +96,13 @@ fn in_slices_of_one(
     partial: &[f64],
     root: Operand,
     whole: &[f64; N],
-) -> Tape {
-    let open = opened(tape, value, adjoint, serial, count, child, partial, root);
-    unfit_slices(open, value, adjoint, serial, count, child, partial);
+) -> io::Result<Tape> {
+    let open = opened(
+        rt, tape, value, adjoint, serial, count, child, partial, root,
+    )?;
+    unfit_slices(rt, open, value, adjoint, serial, count, child, partial)?;
     to_the_end(
+        rt,
         b"slices of 1",
         1,
         open,
@@ -109,6 +117,7 @@ fn in_slices_of_one(
 }
 
 fn in_larger_slices(
+    rt: &impl Print,
     tape: Tape,
     value: &[f64],
     adjoint: &mut [f64],
@@ -118,8 +127,9 @@ fn in_larger_slices(
     partial: &[f64],
     root: Operand,
     whole: &[f64; N],
-) {
+) -> io::Result<()> {
     let over = in_slices(
+        rt,
         b"slices of 1000",
         1_000,
         tape,
@@ -131,8 +141,9 @@ fn in_larger_slices(
         partial,
         root,
         whole,
-    );
+    )?;
     let over = in_slices(
+        rt,
         b"slices of 65535",
         MOST_NODES,
         over,
@@ -144,11 +155,12 @@ fn in_larger_slices(
         partial,
         root,
         whole,
-    );
-    unfit_slices(over, value, adjoint, serial, count, child, partial);
+    )?;
+    unfit_slices(rt, over, value, adjoint, serial, count, child, partial)
 }
 
 fn in_slices(
+    rt: &impl Print,
     call: &[u8],
     nodes: usize,
     tape: Tape,
@@ -160,15 +172,18 @@ fn in_slices(
     partial: &[f64],
     root: Operand,
     whole: &[f64; N],
-) -> Tape {
-    let open = opened(tape, value, adjoint, serial, count, child, partial, root);
+) -> io::Result<Tape> {
+    let open = opened(
+        rt, tape, value, adjoint, serial, count, child, partial, root,
+    )?;
     to_the_end(
-        call, nodes, open, value, adjoint, serial, count, child, partial, whole,
+        rt, call, nodes, open, value, adjoint, serial, count, child, partial, whole,
     )
 }
 
 // The state after the adjoints were cleared and the pass was opened.
 fn opened(
+    rt: &impl Print,
     tape: Tape,
     value: &[f64],
     adjoint: &mut [f64],
@@ -177,16 +192,17 @@ fn opened(
     child: &[u16],
     partial: &[f64],
     root: Operand,
-) -> Tape {
+) -> io::Result<Tape> {
     let pass = Pass::Backward(root);
     let cleared = reset_adjoints(tape, value, adjoint, serial, count, child, partial);
-    report::cleared(N, b"clear", cleared);
+    report::cleared(rt, N, b"clear", cleared)?;
     let answer = open_pass(tape, value, adjoint, serial, count, child, partial, pass);
-    report::sliced(N, b"open backward", answer)
+    report::sliced(rt, N, b"open backward", answer)
 }
 
 // Refused 13 while a walk is open, and 12, which comes first, while none is.
 fn unfit_slices(
+    rt: &impl Print,
     tape: Tape,
     value: &[f64],
     adjoint: &mut [f64],
@@ -194,24 +210,26 @@ fn unfit_slices(
     count: &[u8],
     child: &[u16],
     partial: &[f64],
-) {
+) -> io::Result<()> {
     let mut before = [0.0; N];
     copy(adjoint, &mut before);
     let none = take_slice(tape, value, adjoint, serial, count, child, partial, 0);
-    let after = report::sliced(N, b"slice of 0", none);
+    let after = report::sliced(rt, N, b"slice of 0", none)?;
     let many = take_slice(
         after, value, adjoint, serial, count, child, partial, TOO_MANY,
     );
-    let after = report::sliced(N, b"slice of 65536", many);
+    let after = report::sliced(rt, N, b"slice of 65536", many)?;
     report::kept(
+        rt,
         N,
         b"slices of 0 and 65536",
         is_state(after, tape) & is_same(adjoint, &before),
-    );
+    )
 }
 
 // Slices of so many nodes until none is left, and then the adjoints beside those of the pass in one go.
 fn to_the_end(
+    rt: &impl Print,
     call: &[u8],
     nodes: usize,
     open: Tape,
@@ -222,11 +240,11 @@ fn to_the_end(
     child: &[u16],
     partial: &[f64],
     whole: &[f64; N],
-) -> Tape {
+) -> io::Result<Tape> {
     let cut = slice_all(nodes, open, value, adjoint, serial, count, child, partial);
-    report::cut(N, call, cut);
-    report::compared(N, call, is_same(adjoint, whole));
-    cut.tape
+    report::cut(rt, N, call, cut)?;
+    report::compared(rt, N, call, is_same(adjoint, whole))?;
+    Ok(cut.tape)
 }
 
 fn slice_all(

@@ -10,6 +10,7 @@ use dual::passes::{
 use dual::reading::is_live;
 use dual::slicing::{open_pass, take_slice};
 use expr::ADD;
+use std::io;
 use tape::{Handle, Operand, Span, Tape, Walk};
 
 // The second of the two nodes, by the serial that all entries of the arrays have here.
@@ -18,46 +19,48 @@ const LAST: Handle = Handle {
     serial: 7,
 };
 
-pub(crate) fn run() {
+pub(crate) fn run(rt: &impl Print) -> io::Result<()> {
     let open = left_open(0, 2, true);
-    moving(open);
-    recording(b"walk open, recording", open, ADD);
+    moving(rt, open)?;
+    recording(rt, b"walk open, recording", open, ADD)?;
     recording(
+        rt,
         b"walk open, recording while stopped",
         left_open(0, 2, false),
         ADD,
-    );
-    out_of_turn(open);
-    slicing(b"walk open, slice", open);
-    reading(b"walk open, adjoint", open);
-    writing(b"walk open, listing", open, 122);
-    let started = report::moved(N, b"walk open, start", open.start_recording());
-    slicing(b"walk dropped, slice", started);
-    opening(b"open two nodes", Pass::PropagateToMark);
+    )?;
+    out_of_turn(rt, open)?;
+    slicing(rt, b"walk open, slice", open)?;
+    reading(rt, b"walk open, adjoint", open)?;
+    writing(rt, b"walk open, listing", open, 122)?;
+    let started = report::moved(rt, N, b"walk open, start", open.start_recording())?;
+    slicing(rt, b"walk dropped, slice", started)?;
+    opening(rt, b"open two nodes", Pass::PropagateToMark)?;
     opening(
+        rt,
         b"open no node",
         Pass::BackwardMarkToStart(Operand::Node(LAST)),
-    );
-    fitting();
+    )?;
+    fitting(rt)
 }
 
 // A walk that is open has a node left, and none past the length.
-fn fitting() {
+fn fitting(rt: &impl Print) -> io::Result<()> {
     let one = left_open(1, 2, true);
-    report::moved(N, b"one node left, start", one.start_recording());
-    report::moved(N, b"one node left, stop", one.stop_recording());
-    slicing(b"one node left, slice", one);
-    reading(b"one node left, adjoint", one);
+    report::moved(rt, N, b"one node left, start", one.start_recording())?;
+    report::moved(rt, N, b"one node left, stop", one.stop_recording())?;
+    slicing(rt, b"one node left, slice", one)?;
+    reading(rt, b"one node left, adjoint", one)?;
     let none = left_open(1, 1, true);
-    report::moved(N, b"no node left, start", none.start_recording());
-    report::moved(N, b"no node left, stop", none.stop_recording());
-    slicing(b"no node left, slice", none);
-    reading(b"no node left, adjoint", none);
+    report::moved(rt, N, b"no node left, start", none.start_recording())?;
+    report::moved(rt, N, b"no node left, stop", none.stop_recording())?;
+    slicing(rt, b"no node left, slice", none)?;
+    reading(rt, b"no node left, adjoint", none)?;
     let past = left_open(1, 3, true);
-    report::moved(N, b"past the length, start", past.start_recording());
-    report::moved(N, b"past the length, stop", past.stop_recording());
-    slicing(b"past the length, slice", past);
-    reading(b"past the length, adjoint", past);
+    report::moved(rt, N, b"past the length, start", past.start_recording())?;
+    report::moved(rt, N, b"past the length, stop", past.stop_recording())?;
+    slicing(rt, b"past the length, slice", past)?;
+    reading(rt, b"past the length, adjoint", past)
 }
 
 // Two nodes with these left to be walked, fit or not. Written out, since `Tape::walking` closes a walk that has no node
@@ -73,16 +76,17 @@ fn left_open(from: usize, end: usize, active: bool) -> Tape {
     }
 }
 
-fn moving(tape: Tape) {
-    let tape = report::moved(N, b"walk open, stop", tape.stop_recording());
-    let tape = report::moved(N, b"walk open, set mark", tape.set_mark());
-    let tape = report::moved(N, b"walk open, reset mark", tape.reset_mark());
-    let tape = report::moved(N, b"walk open, rewind to mark", tape.rewind_to_mark());
-    report::moved(N, b"walk open, rewind to init", tape.rewind_to_init());
+fn moving(rt: &impl Print, tape: Tape) -> io::Result<()> {
+    let tape = report::moved(rt, N, b"walk open, stop", tape.stop_recording())?;
+    let tape = report::moved(rt, N, b"walk open, set mark", tape.set_mark())?;
+    let tape = report::moved(rt, N, b"walk open, reset mark", tape.reset_mark())?;
+    let tape = report::moved(rt, N, b"walk open, rewind to mark", tape.rewind_to_mark())?;
+    report::moved(rt, N, b"walk open, rewind to init", tape.rewind_to_init())?;
+    Ok(())
 }
 
 // The calls that are lent no more than the adjoints to write.
-fn out_of_turn(tape: Tape) {
+fn out_of_turn(rt: &impl Print, tape: Tape) -> io::Result<()> {
     let value = [3.0; N];
     let mut adjoint = [0.5; N];
     let serial = [7u64; N];
@@ -90,6 +94,7 @@ fn out_of_turn(tape: Tape) {
     let child = [0u16; SLOTS];
     let partial = [0.7; SLOTS];
     passing(
+        rt,
         tape,
         &value,
         &mut adjoint,
@@ -97,8 +102,9 @@ fn out_of_turn(tape: Tape) {
         &count,
         &child,
         &partial,
-    );
+    )?;
     changing(
+        rt,
         tape,
         &value,
         &mut adjoint,
@@ -106,12 +112,20 @@ fn out_of_turn(tape: Tape) {
         &count,
         &child,
         &partial,
-    );
-    asking(tape, &value, &adjoint, &serial, &count, &child, &partial);
-    report::kept(N, b"walk open, from backward on", is_floats(&adjoint, 0.5));
+    )?;
+    asking(
+        rt, tape, &value, &adjoint, &serial, &count, &child, &partial,
+    )?;
+    report::kept(
+        rt,
+        N,
+        b"walk open, from backward on",
+        is_floats(&adjoint, 0.5),
+    )
 }
 
 fn passing(
+    rt: &impl Print,
     tape: Tape,
     value: &[f64],
     adjoint: &mut [f64; N],
@@ -119,21 +133,22 @@ fn passing(
     count: &[u8],
     child: &[u16],
     partial: &[f64],
-) {
+) -> io::Result<()> {
     let root = Operand::Node(LAST);
     let answer = backward(tape, value, adjoint, serial, count, child, partial, root);
-    report::passed(N, b"walk open, backward", answer);
+    report::passed(rt, N, b"walk open, backward", answer)?;
     let answer = backward_to_mark(tape, value, adjoint, serial, count, child, partial, root);
-    report::passed(N, b"walk open, backward to mark", answer);
+    report::passed(rt, N, b"walk open, backward to mark", answer)?;
     let answer = backward_mark_to_start(tape, value, adjoint, serial, count, child, partial, root);
-    report::passed(N, b"walk open, backward mark to start", answer);
+    report::passed(rt, N, b"walk open, backward mark to start", answer)?;
     let answer = propagate_to_mark(tape, value, adjoint, serial, count, child, partial);
-    report::passed(N, b"walk open, propagate to mark", answer);
+    report::passed(rt, N, b"walk open, propagate to mark", answer)?;
     let answer = propagate_mark_to_start(tape, value, adjoint, serial, count, child, partial);
-    report::passed(N, b"walk open, propagate mark to start", answer);
+    report::passed(rt, N, b"walk open, propagate mark to start", answer)
 }
 
 fn changing(
+    rt: &impl Print,
     tape: Tape,
     value: &[f64],
     adjoint: &mut [f64; N],
@@ -141,15 +156,16 @@ fn changing(
     count: &[u8],
     child: &[u16],
     partial: &[f64],
-) {
+) -> io::Result<()> {
     let pass = Pass::PropagateToMark;
     let answer = open_pass(tape, value, adjoint, serial, count, child, partial, pass);
-    report::sliced(N, b"walk open, another opening", answer);
+    report::sliced(rt, N, b"walk open, another opening", answer)?;
     let answer = reset_adjoints(tape, value, adjoint, serial, count, child, partial);
-    report::cleared(N, b"walk open, clear", answer);
+    report::cleared(rt, N, b"walk open, clear", answer)
 }
 
 fn asking(
+    rt: &impl Print,
     tape: Tape,
     value: &[f64],
     adjoint: &[f64; N],
@@ -157,16 +173,16 @@ fn asking(
     count: &[u8],
     child: &[u16],
     partial: &[f64],
-) {
+) -> io::Result<()> {
     let node = Operand::Node(LAST);
     let answer = dual::reading::value(tape, value, adjoint, serial, count, child, partial, node);
-    report::read(N, b"walk open, value", answer);
+    report::read(rt, N, b"walk open, value", answer)?;
     let answer = is_live(tape, value, adjoint, serial, count, child, partial, node);
-    report::liveness(N, b"walk open, is live", answer);
+    report::liveness(rt, N, b"walk open, is live", answer)
 }
 
 // A slice of one node.
-fn slicing(call: &[u8], tape: Tape) {
+fn slicing(rt: &impl Print, call: &[u8], tape: Tape) -> io::Result<()> {
     let value = [3.0; N];
     let mut adjoint = [0.5; N];
     let serial = [7u64; N];
@@ -183,12 +199,17 @@ fn slicing(call: &[u8], tape: Tape) {
         &partial,
         1,
     );
-    let after = report::sliced(N, call, answer);
-    report::kept(N, call, is_state(after, tape) & is_floats(&adjoint, 0.5));
+    let after = report::sliced(rt, N, call, answer)?;
+    report::kept(
+        rt,
+        N,
+        call,
+        is_state(after, tape) & is_floats(&adjoint, 0.5),
+    )
 }
 
 // The adjoint of the second node.
-fn reading(call: &[u8], tape: Tape) {
+fn reading(rt: &impl Print, call: &[u8], tape: Tape) -> io::Result<()> {
     let value = [3.0; N];
     let adjoint = [0.5; N];
     let serial = [7u64; N];
@@ -196,12 +217,12 @@ fn reading(call: &[u8], tape: Tape) {
     let child = [0u16; SLOTS];
     let partial = [0.7; SLOTS];
     read(
-        call, tape, &value, &adjoint, &serial, &count, &child, &partial,
-    );
+        rt, call, tape, &value, &adjoint, &serial, &count, &child, &partial,
+    )
 }
 
 // A pass of the two nodes, and the adjoint of the second then.
-fn opening(call: &[u8], pass: Pass) {
+fn opening(rt: &impl Print, call: &[u8], pass: Pass) -> io::Result<()> {
     let value = [3.0; N];
     let mut adjoint = [0.5; N];
     let serial = [7u64; N];
@@ -218,8 +239,9 @@ fn opening(call: &[u8], pass: Pass) {
         &partial,
         pass,
     );
-    let tape = report::sliced(N, call, answer);
+    let tape = report::sliced(rt, N, call, answer)?;
     read(
+        rt,
         b"adjoint of the last node",
         tape,
         &value,
@@ -228,10 +250,11 @@ fn opening(call: &[u8], pass: Pass) {
         &count,
         &child,
         &partial,
-    );
+    )
 }
 
 fn read(
+    rt: &impl Print,
     call: &[u8],
     tape: Tape,
     value: &[f64],
@@ -240,8 +263,8 @@ fn read(
     count: &[u8],
     child: &[u16],
     partial: &[f64],
-) {
+) -> io::Result<()> {
     let node = Operand::Node(LAST);
     let answer = dual::reading::adjoint(tape, value, adjoint, serial, count, child, partial, node);
-    report::read(N, call, answer);
+    report::read(rt, N, call, answer)
 }

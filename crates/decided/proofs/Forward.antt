@@ -38,7 +38,7 @@ order1 = record {
   le = record { same = equal };
   gt = record { same = equal };
   ge = record { same = equal };
-  partial-cmp = record { same = equal };
+  partial_cmp = record { same = equal };
   eq_f64 = record { same = equal };
   ne_f64 = record { same = equal };
   lt_f64 = record { same = equal };
@@ -80,7 +80,7 @@ order2 = record {
   le = record { same = equal };
   gt = record { same = equal };
   ge = record { same = equal };
-  partial-cmp = record { same = equal };
+  partial_cmp = record { same = equal };
   eq_f64 = record { same = equal };
   ne_f64 = record { same = equal };
   lt_f64 = record { same = equal };
@@ -123,7 +123,7 @@ order3 = record {
   le = record { same = equal };
   gt = record { same = equal };
   ge = record { same = equal };
-  partial-cmp = record { same = equal };
+  partial_cmp = record { same = equal };
   eq_f64 = record { same = equal };
   ne_f64 = record { same = equal };
   lt_f64 = record { same = equal };
@@ -167,7 +167,7 @@ order4 = record {
   le = record { same = equal };
   gt = record { same = equal };
   ge = record { same = equal };
-  partial-cmp = record { same = equal };
+  partial_cmp = record { same = equal };
   eq_f64 = record { same = equal };
   ne_f64 = record { same = equal };
   lt_f64 = record { same = equal };

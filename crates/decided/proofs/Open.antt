@@ -7,7 +7,8 @@ use lib.Ieee.{Float, nan, inf, fin}
 use lib.ListN.{get_or}
 use native.Mathlib.Omega.{arith}
 use contract.Lifetimes.{Lfts}
-use denote.Ref.{Bor}
+use denote.Bor.{Bor}
+use denote.MutBor.{MutBor}
 use denote.Triple.Entry.{Args, Res}
 use denote.Triple.Clauses.{Ended, Lasts, at_exit}
 use Rattle.tape.specs.Numbers.{floats}
@@ -36,8 +37,12 @@ unfit = with_next 0 new_tape
 abbrev lifetimes : Lfts 6
 lifetimes = ([], ([], ([], ([], ([], ([], tt))))))
 
-abbrev lent : {X : Type 0} → List X → Bor (List X)
-lent xs = record { ref_ptr = (0, 0); now = xs }
+-- an array lent to be read, and one lent to be written
+abbrev to_read : {X : Type 0} → List X → Bor (List X)
+to_read xs = record { ref_ptr = (0, 0); now = xs }
+
+abbrev to_write : {X : Type 0} → List X → MutBor (List X)
+to_write xs = record { ref_ptr = (0, 0); ghost_name = 0; now = xs }
 
 -- one value and one adjoint, the same
 abbrev filled : Float → Arrays floats
@@ -55,8 +60,8 @@ zero_not_one e = omega arith
 pub all_open : Open
 unfolding step
 all_open = record {
-  six_arrays = left_open _ _ lifetimes (unfit, (lent (nan ∷ []), (lent (nan ∷ []), (lent [], (lent [], (lent [], (lent [], (0, (Number nan, (Number nan, (record { value = nan; left = nan; right = nan }, tt))))))))))) (recorded.Refused Misshapen unfit) (six_arrays _ (filled nan)) (six_arrays _ (filled (inf false))) refl (λ e. zero_not_one (ap (λ w. rank (get_or w.1.0 0 nan)) e));
-  adjoints = left_open _ _ lifetimes (unfit, (lent (nan ∷ []), (lent (nan ∷ []), (lent [], (lent [], (lent [], (lent [], (Number nan, tt)))))))) (passed.Refused Misshapen) (adjoints _ (machine unfit (filled nan))) (adjoints _ (machine unfit (filled (inf false)))) refl (λ e. zero_not_one (ap (λ w. rank (get_or w.1.1.0 0 nan)) e));
-  bytes = left_open _ _ ([], lifetimes) (unfit, (lent (nan ∷ []), (lent (nan ∷ []), (lent [], (lent [], (lent [], (lent [], (lent (0 ∷ []), tt)))))))) (listed.Refused Misshapen) (bytes (0 ∷ [])) (bytes (1 ∷ [])) refl (λ e. zero_not_one (ap (λ w. get_or w.1.1.1.1.1.1.1.0 0 0) e));
+  six_arrays = left_open _ _ lifetimes (unfit, (to_write (nan ∷ []), (to_write (nan ∷ []), (to_write [], (to_write [], (to_write [], (to_write [], (0, (Number nan, (Number nan, (record { value = nan; left = nan; right = nan }, tt))))))))))) (recorded.Refused Misshapen unfit) (six_arrays _ (filled nan)) (six_arrays _ (filled (inf false))) refl (λ e. zero_not_one (ap (λ w. rank (get_or w.1.0 0 nan)) e));
+  adjoints = left_open _ _ lifetimes (unfit, (to_read (nan ∷ []), (to_write (nan ∷ []), (to_read [], (to_read [], (to_read [], (to_read [], (Number nan, tt)))))))) (passed.Refused Misshapen) (adjoints _ (machine unfit (filled nan))) (adjoints _ (machine unfit (filled (inf false)))) refl (λ e. zero_not_one (ap (λ w. rank (get_or w.1.1.0 0 nan)) e));
+  bytes = left_open _ _ ([], lifetimes) (unfit, (to_read (nan ∷ []), (to_read (nan ∷ []), (to_read [], (to_read [], (to_read [], (to_read [], (to_write (0 ∷ []), tt)))))))) (listed.Refused Misshapen) (bytes (0 ∷ [])) (bytes (1 ∷ [])) refl (λ e. zero_not_one (ap (λ w. get_or w.1.1.1.1.1.1.1.0 0 0) e));
   answer = λ d. zero_not_one (ap (λ t. t.next) (d.same {κs = tt} {a = tt} {z = unfit} {z' = new_tape} {ws = tt} {ws' = tt} (new_tape, refl) (new_tape, refl)).0);
 }

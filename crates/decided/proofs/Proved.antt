@@ -18,7 +18,7 @@ use Rattle.decided.proofs.Root as of_root
 use Rattle.decided.proofs.Forward as forward
 use Rattle.decided.proofs.Tape as of_tape
 use Rattle.decided.proofs.Expr as of_expr
-use Rattle.decided.proofs.Dual as of_dual_lem
+use Rattle.decided.proofs.Dual as of_dual
 use Rattle.decided.proofs.Listing as of_listing
 use Rattle.decided.proofs.Session as of_session
 use Rattle.decided.proofs.Text as of_text
@@ -51,7 +51,7 @@ expr : Expr
 expr = of_expr.expr
 
 dual : Dual
-dual = of_dual_lem.dual
+dual = of_dual.dual
 
 listing : Listing
 listing = of_listing.listing

@@ -1,5 +1,7 @@
 -- A promise decides its function's answer: nothing that a caller can see is left open.
--- Of a function `f` the checker makes `f.ended`, its signature, and `f.Reads.Learnt`, what its `ensures` tell a caller.
+-- Of a function `f` the checker makes `f.ended`, its signature, among the contracts, and `f.Reads.Learnt`, what its
+-- `ensures` tell a caller, among the proofs. In the lists a crate, file or type alone, as `passes`, names the contracts
+-- there, and `told_passes` the proofs.
 use Rattle.std.specs.Prelude.{◌≡◌}
 use contract.Lifetimes.{Lfts}
 use denote.Triple.Entry.{Args, Res}

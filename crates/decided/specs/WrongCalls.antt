@@ -12,7 +12,7 @@ use Rattle.tape.specs.Operations.{UNKNOWN, ADD, SUBTRACT, MULTIPLY, DIVIDE, MAX,
 use Rattle.tape.specs.Walk.{Edge}
 use Rattle.tape.specs.Listing.{listing}
 use Rattle.tape.specs.Answers.{Answer, number, refused, done, read_value, recorded, counted, cut}
-use Rattle.tape.specs.Calls.{Call, Move, start, stop, set_mark, reset_mark, rewind_to_mark, rewind_to_init, move, operate, clear, pass, open_pass, slice, backward, backward_to_mark, backward_mark_to_start, propagate_to_mark, propagate_mark_to_start, value_of_lem, adjoint_of, is_live, list, issued, written, with_adjoints}
+use Rattle.tape.specs.Calls.{Call, Move, start, stop, set_mark, reset_mark, rewind_to_mark, rewind_to_init, move, operate, clear, pass, open_pass, slice, backward, backward_to_mark, backward_mark_to_start, propagate_to_mark, propagate_mark_to_start, value_of, adjoint_of, is_live, list, issued, written, with_adjoints}
 use Rattle.tape.specs.Admission.{lengths, admitted, let_in}
 use Rattle.tape.specs.Refusals.{last_serial}
 use Rattle.tape.specs.Steps.{step}
@@ -350,9 +350,9 @@ sqrt_tried =
 
 -- value: a number refused 4; the value behind a handle that is not live; 3 for one that was never issued
 abbrev pub value_tried : List Tried
-value_tried = a_step (step (value_of_lem (plain (float 5))) (marked 2)) (refused Detached, marked 2)
-    ∷ a_step (step (value_of_lem stale) (marked 2)) (read_value (float 2), marked 2)
-    ∷ a_step (step (value_of_lem made_up) (marked 2)) (refused Stale, marked 2) ∷ []
+value_tried = a_step (step (value_of (plain (float 5))) (marked 2)) (refused Detached, marked 2)
+    ∷ a_step (step (value_of stale) (marked 2)) (read_value (float 2), marked 2)
+    ∷ a_step (step (value_of made_up) (marked 2)) (refused Stale, marked 2) ∷ []
 
 -- adjoint: a handle that is not live refused 4; 11 for a stale one; 0.0 for a number, which is refused
 abbrev pub adjoint_tried : List Tried
@@ -481,7 +481,7 @@ changes =
 
 -- and those that read it
 abbrev pub readings : List (Call floats × Machine floats)
-readings = (value_of_lem x0, marked 2) ∷ (adjoint_of x0, marked 2) ∷ (is_live x0, marked 2) ∷ (list 220, marked 2) ∷ []
+readings = (value_of x0, marked 2) ∷ (adjoint_of x0, marked 2) ∷ (is_live x0, marked 2) ∷ (list 220, marked 2) ∷ []
 
 -- a refusal, always
 abbrev pub refuses_tried : List Tried

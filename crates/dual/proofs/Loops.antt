@@ -14,7 +14,7 @@ use lib.ListN.{length, get_or, set, drop, replicate, length-set, length-replicat
 use lib.Seq.{sets, sets-eq}
 use Rattle.tape.specs.Numbers.{floats}
 use Rattle.tape.specs.Machine.{Arrays, slot, all, most_nodes, most_edges}
-use Rattle.tape.specs.Walk.{Edge, push, walk, edges_from, edges_at, indexes, visited, sound}
+use Rattle.tape.specs.Walk.{Edge, push, walk, edges_from, edges_at, indexes, visited}
 use Rattle.tape.proofs.Passes.{walk_cut, visited_cut}
 use Rattle.tape.proofs.Ranges.{less_one, nothing_left, indexes_first}
 use Rattle.dual.specs.Inner.{EdgeRoom, NodeRoom, Within, Walkable, edge_arrays, sound_edges}

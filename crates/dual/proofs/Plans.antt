@@ -10,7 +10,7 @@ use lib.Dec.{leb}
 use lib.ListN.{get_or}
 use Rattle.tape.specs.Numbers.{floats}
 use Rattle.tape.specs.Machine.{Arrays, Machine, machine, most_edges, most_nodes, slot, all}
-use Rattle.tape.specs.Admission.{admitted, let_in, when, first}
+use Rattle.tape.specs.Admission.{lengths, admission, admitted, let_in, when, first}
 use Rattle.tape.specs.Handles.{Operand, plain, node, operand, live, amiss, handles, any_plain}
 use Rattle.tape.specs.Walk.{walk, edges_at, visited, sound}
 use Rattle.tape.specs.Answers.{counted, cut}
@@ -18,6 +18,7 @@ use Rattle.tape.specs.Calls.{Pass as Pass', backward, backward_to_mark, backward
 use Rattle.tape.specs.Refusals.{first_amiss, refusal_of}
 use Rattle.tape.specs.Steps.{unless, step}
 use Rattle.tape.specs.declared.admission.Caller.TheVariants as caller
+use Rattle.tape.specs.declared.admission.Lengths.{Lengths}
 use Rattle.tape.specs.declared.errors.Refusal.{Refusal}
 use Rattle.tape.specs.declared.errors.Refusal.TheVariants.{Detached, UnsoundEdge}
 use Rattle.tape.specs.declared.node.Handle.{Handle}
@@ -224,6 +225,10 @@ both A P ready z e = (e, subst (λ z. Ready z A.adjoint A.count A.child A.partia
 
 not_root : {P : Type 0} {k : Refusal} {root : Root} → found.Refused k ≡ found.Root root → P
 not_root e = let z : ◌≡◌ {A = ℕ} 0 1 = cc in absurd (omega arith)
+
+-- told the lengths of the machine's arrays, what was found is found of the machine
+pub found_of : (M : Machine floats) (which : Pass) (n : Lengths) (r : Found) → r ≡ root_if (admitted (admission caller.Passing n M.state)) (roots M which) → n ≡ lengths M.lent → r ≡ root_if (admitted (let_in caller.Passing M)) (roots M which)
+found_of M which n r e f = e ∙ ap (λ n. root_if (admitted (admission caller.Passing n M.state)) (roots M which)) f
 
 module _ (M : Machine floats) (which : Pass) (r : Found) (is_found : r ≡ root_if (admitted (let_in caller.Passing M)) (roots M which)) where
   pub refuses : (k : Refusal) → r ≡ found.Refused k → Refused k ≡ planned (refusal_of (pass (pass_of which)) M) (plan (pass_of which) M.state)

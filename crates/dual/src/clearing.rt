@@ -1,7 +1,7 @@
 // Clearing: +0.0 in each live adjoint.
 ghost use Rattle.std.specs.Prelude.{◌≤◌, ◌≡◌, ◌++◌, length, drop, replicate};
 ghost use Rattle.tape.specs.Numbers.{floats};
-ghost use Rattle.tape.specs.Machine.{machine, lent_after, lent_before};
+ghost use Rattle.tape.specs.Machine.{machine, lent_arrays};
 ghost use Rattle.tape.specs.Calls.{clear};
 ghost use Rattle.tape.specs.Steps.{step};
 ghost use Rattle.dual.specs.Outcome.{cleared_outcome};
@@ -9,7 +9,7 @@ ghost use Rattle.dual.specs.Outcome.{cleared_outcome};
 use tape::{Admission, Caller, Lengths, Refusal, Tape};
 
 // What clearing answers: that it was done, or the refusal.
-#[derive(Drop)]
+#[derive(Clone, Copy)]
 pub enum Cleared {
     Done,
     Refused(Refusal),
@@ -25,8 +25,8 @@ pub fn reset_adjoints(
     child: &[u16],
     partial: &[f64],
 ) -> Cleared
-    ensures { cleared_outcome result (machine tape (lent_after value adjoint serial count child partial))
-        ≡ step clear (machine tape (lent_before value adjoint serial count child partial)) }
+    ensures { cleared_outcome result (machine tape (lent_arrays value.now adjoint.new serial.now count.now child.now partial.now))
+        ≡ step clear (machine tape (lent_arrays value.now adjoint.old serial.now count.now child.now partial.now)) }
 {
     match tape.admit(
         Caller::Clearing,

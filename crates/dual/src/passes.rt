@@ -2,7 +2,7 @@
 // each is refused 12.
 ghost use Rattle.std.specs.Prelude.{◌≡◌, ℕ, List, Float};
 ghost use Rattle.tape.specs.Numbers.{floats};
-ghost use Rattle.tape.specs.Machine.{arrays, machine, lent_after, lent_before};
+ghost use Rattle.tape.specs.Machine.{arrays, machine, lent_arrays};
 ghost use Rattle.tape.specs.Handles.{operand};
 ghost use Rattle.tape.specs.Calls.{pass, backward, backward_to_mark, backward_mark_to_start, propagate_to_mark, propagate_mark_to_start, seeded};
 ghost use Rattle.tape.specs.Steps.{step};
@@ -13,7 +13,7 @@ use crate::planning::{Planned, Root};
 use tape::{Operand, Refusal, Tape};
 
 // The five passes, under the names of their calls, with the root of those that have one.
-#[derive(Drop)]
+#[derive(Clone, Copy)]
 pub enum Pass {
     Backward(Operand),
     BackwardToMark(Operand),
@@ -23,7 +23,7 @@ pub enum Pass {
 }
 
 // What a pass answers: how many edges it visited, or the refusal.
-#[derive(Drop)]
+#[derive(Clone, Copy)]
 pub enum Passed {
     Visited(u32),
     Refused(Refusal),
@@ -41,9 +41,9 @@ pub fn backward(
     partial: &[f64],
     root: Operand,
 ) -> Passed
-    ensures { pass_outcome result (machine tape (lent_after value adjoint serial count child partial))
+    ensures { pass_outcome result (machine tape (lent_arrays value.now adjoint.new serial.now count.now child.now partial.now))
         ≡ step (pass (backward (operand root)))
-        (machine tape (lent_before value adjoint serial count child partial)) }
+        (machine tape (lent_arrays value.now adjoint.old serial.now count.now child.now partial.now)) }
 {
     run(
         Pass::Backward(root),
@@ -69,9 +69,9 @@ pub fn backward_to_mark(
     partial: &[f64],
     root: Operand,
 ) -> Passed
-    ensures { pass_outcome result (machine tape (lent_after value adjoint serial count child partial))
+    ensures { pass_outcome result (machine tape (lent_arrays value.now adjoint.new serial.now count.now child.now partial.now))
         ≡ step (pass (backward_to_mark (operand root)))
-        (machine tape (lent_before value adjoint serial count child partial)) }
+        (machine tape (lent_arrays value.now adjoint.old serial.now count.now child.now partial.now)) }
 {
     run(
         Pass::BackwardToMark(root),
@@ -97,9 +97,9 @@ pub fn backward_mark_to_start(
     partial: &[f64],
     root: Operand,
 ) -> Passed
-    ensures { pass_outcome result (machine tape (lent_after value adjoint serial count child partial))
+    ensures { pass_outcome result (machine tape (lent_arrays value.now adjoint.new serial.now count.now child.now partial.now))
         ≡ step (pass (backward_mark_to_start (operand root)))
-        (machine tape (lent_before value adjoint serial count child partial)) }
+        (machine tape (lent_arrays value.now adjoint.old serial.now count.now child.now partial.now)) }
 {
     run(
         Pass::BackwardMarkToStart(root),
@@ -123,8 +123,8 @@ pub fn propagate_to_mark(
     child: &[u16],
     partial: &[f64],
 ) -> Passed
-    ensures { pass_outcome result (machine tape (lent_after value adjoint serial count child partial))
-        ≡ step (pass propagate_to_mark) (machine tape (lent_before value adjoint serial count child partial)) }
+    ensures { pass_outcome result (machine tape (lent_arrays value.now adjoint.new serial.now count.now child.now partial.now))
+        ≡ step (pass propagate_to_mark) (machine tape (lent_arrays value.now adjoint.old serial.now count.now child.now partial.now)) }
 {
     run(
         Pass::PropagateToMark,
@@ -148,8 +148,8 @@ pub fn propagate_mark_to_start(
     child: &[u16],
     partial: &[f64],
 ) -> Passed
-    ensures { pass_outcome result (machine tape (lent_after value adjoint serial count child partial))
-        ≡ step (pass propagate_mark_to_start) (machine tape (lent_before value adjoint serial count child partial)) }
+    ensures { pass_outcome result (machine tape (lent_arrays value.now adjoint.new serial.now count.now child.now partial.now))
+        ≡ step (pass propagate_mark_to_start) (machine tape (lent_arrays value.now adjoint.old serial.now count.now child.now partial.now)) }
 {
     run(
         Pass::PropagateMarkToStart,
@@ -174,8 +174,8 @@ pub fn run(
     child: &[u16],
     partial: &[f64],
 ) -> Passed
-    ensures { pass_outcome result (machine tape (lent_after value adjoint serial count child partial))
-        ≡ step (pass (pass_of which)) (machine tape (lent_before value adjoint serial count child partial)) }
+    ensures { pass_outcome result (machine tape (lent_arrays value.now adjoint.new serial.now count.now child.now partial.now))
+        ≡ step (pass (pass_of which)) (machine tape (lent_arrays value.now adjoint.old serial.now count.now child.now partial.now)) }
 {
     let planned = crate::planning::plan(which, tape, value, adjoint, serial, count, child, partial);
     carry_out(planned, adjoint, count, child, partial)

@@ -1,6 +1,6 @@
 // Planning a pass or a slice: every refusal is settled here, with the root and the range, before anything is written.
 ghost use Rattle.std.specs.Prelude.{◌≤◌, ◌≡◌, cond, [], ◌∷◌};
-ghost use Rattle.tape.specs.Machine.{machine, most_nodes, span, lent_before};
+ghost use Rattle.tape.specs.Machine.{machine, most_nodes, span, lent_arrays};
 ghost use Rattle.tape.specs.Handles.{node, operand};
 ghost use Rattle.tape.specs.Calls.{pass, slice, plan, past, span_of, nodes_in, left_of, cut_at, slice_plan, slice_leaves};
 ghost use Rattle.tape.specs.Admission.{admission, admitted};
@@ -15,7 +15,7 @@ use tape::{
 };
 
 // The root of a pass that is let in, if it has one.
-#[derive(Drop)]
+#[derive(Clone, Copy)]
 pub(crate) enum Root {
     None,
     At(Handle),
@@ -23,14 +23,14 @@ pub(crate) enum Root {
 
 // What a pass, its opening or a slice is to do: set the adjoint of the root to one, if there is one, and walk this range
 // or leave it open; or the refusal.
-#[derive(Drop)]
+#[derive(Clone, Copy)]
 pub(crate) enum Planned {
     Refused(Refusal),
     Walk(Root, Span),
 }
 
 // What the search for a root comes to.
-#[derive(Drop)]
+#[derive(Clone, Copy)]
 pub(crate) enum Found {
     Refused(Refusal),
     Root(Root),
@@ -48,7 +48,7 @@ pub(crate) fn plan(
     partial: &[f64],
 ) -> Planned
     ensures value { result
-        ≡ planned (refusal_of (pass (pass_of which)) (machine tape (lent_before value adjoint serial count child partial))) (plan (pass_of which) tape) }
+        ≡ planned (refusal_of (pass (pass_of which)) (machine tape (lent_arrays value.now adjoint.now serial.now count.now child.now partial.now))) (plan (pass_of which) tape) }
     ensures ready { Ready result adjoint.now count.now child.now partial.now }
 {
     match let_in(
@@ -74,7 +74,7 @@ pub(crate) fn plan_slice(
     partial: &[f64],
 ) -> Planned
     ensures value { result
-        ≡ planned (refusal_of (slice nodes) (machine tape (lent_before value adjoint serial count child partial))) (slice_plan nodes (left_of tape.walk)) }
+        ≡ planned (refusal_of (slice nodes) (machine tape (lent_arrays value.now adjoint.now serial.now count.now child.now partial.now))) (slice_plan nodes (left_of tape.walk)) }
     ensures ready { Ready result adjoint.now count.now child.now partial.now }
 {
     match tape.admit(

@@ -1,8 +1,8 @@
 // Reads: what stands behind a number or a handle.
 ghost use Rattle.std.specs.Prelude.{◌≤◌, ◌≡◌, length};
-ghost use Rattle.tape.specs.Machine.{machine, lent_before};
+ghost use Rattle.tape.specs.Machine.{machine, lent_arrays};
 ghost use Rattle.tape.specs.Handles.{operand};
-ghost use Rattle.tape.specs.Calls.{value_of_lem, adjoint_of, is_live};
+ghost use Rattle.tape.specs.Calls.{value_of, adjoint_of, is_live};
 ghost use Rattle.tape.specs.Steps.{step};
 ghost use Rattle.dual.specs.Outcome.{read_outcome, liveness_outcome};
 ghost use Rattle.dual.specs.Inner.{behind_node, liveness_of, value_behind, adjoint_behind, liveness_behind};
@@ -10,14 +10,14 @@ ghost use Rattle.dual.specs.Inner.{behind_node, liveness_of, value_behind, adjoi
 use tape::{Admission, Caller, Handle, Lengths, Lookup, Operand, Refusal, Tape, Usable};
 
 // What a read answers: the number that was asked for, or the refusal.
-#[derive(Drop)]
+#[derive(Clone, Copy)]
 pub enum Read {
     Number(f64),
     Refused(Refusal),
 }
 
 // What is_live finds an operand to be; or the refusal.
-#[derive(Drop)]
+#[derive(Clone, Copy)]
 pub enum Liveness {
     Live,
     Stale,
@@ -38,8 +38,8 @@ pub fn value(
     partial: &[f64],
     x: Operand,
 ) -> Read
-    ensures { read_outcome result (machine tape (lent_before value adjoint serial count child partial))
-        ≡ step (value_of_lem (operand x)) (machine tape (lent_before value adjoint serial count child partial)) }
+    ensures { read_outcome result (machine tape (lent_arrays value.now adjoint.now serial.now count.now child.now partial.now))
+        ≡ step (value_of (operand x)) (machine tape (lent_arrays value.now adjoint.now serial.now count.now child.now partial.now)) }
 {
     match tape.admit(
         Caller::Value,
@@ -62,8 +62,8 @@ pub fn adjoint(
     partial: &[f64],
     x: Operand,
 ) -> Read
-    ensures { read_outcome result (machine tape (lent_before value adjoint serial count child partial))
-        ≡ step (adjoint_of (operand x)) (machine tape (lent_before value adjoint serial count child partial)) }
+    ensures { read_outcome result (machine tape (lent_arrays value.now adjoint.now serial.now count.now child.now partial.now))
+        ≡ step (adjoint_of (operand x)) (machine tape (lent_arrays value.now adjoint.now serial.now count.now child.now partial.now)) }
 {
     match tape.admit(
         Caller::Adjoint,
@@ -86,8 +86,8 @@ pub fn is_live(
     partial: &[f64],
     x: Operand,
 ) -> Liveness
-    ensures { liveness_outcome result (machine tape (lent_before value adjoint serial count child partial))
-        ≡ step (is_live (operand x)) (machine tape (lent_before value adjoint serial count child partial)) }
+    ensures { liveness_outcome result (machine tape (lent_arrays value.now adjoint.now serial.now count.now child.now partial.now))
+        ≡ step (is_live (operand x)) (machine tape (lent_arrays value.now adjoint.now serial.now count.now child.now partial.now)) }
 {
     match tape.admit(
         Caller::Liveness,

@@ -1,7 +1,7 @@
 // A pass in slices: its walk is opened, and then continued by so many nodes at a time until none is left.
 ghost use Rattle.std.specs.Prelude.{◌≡◌, ℕ, List, Float};
 ghost use Rattle.tape.specs.Numbers.{floats};
-ghost use Rattle.tape.specs.Machine.{arrays, machine, lent_after, lent_before};
+ghost use Rattle.tape.specs.Machine.{arrays, machine, lent_arrays};
 ghost use Rattle.tape.specs.Calls.{open_pass, slice};
 ghost use Rattle.tape.specs.Steps.{step};
 ghost use Rattle.dual.specs.Outcome.{pass_of, sliced_outcome};
@@ -13,7 +13,7 @@ use tape::{Refusal, Span, Tape};
 
 // What an opening or a slice answers: how many edges it visited, how many nodes are left, and the state after it; or the
 // refusal and the state as it was. With no node left the walk is over.
-#[derive(Drop)]
+#[derive(Clone, Copy)]
 pub enum Sliced {
     Walked(u32, usize, Tape),
     Refused(Refusal, Tape),
@@ -31,8 +31,8 @@ pub fn open_pass(
     partial: &[f64],
     pass: Pass,
 ) -> Sliced
-    ensures { sliced_outcome result (lent_after value adjoint serial count child partial)
-        ≡ step (open_pass (pass_of pass)) (machine tape (lent_before value adjoint serial count child partial)) }
+    ensures { sliced_outcome result (lent_arrays value.now adjoint.new serial.now count.now child.now partial.now)
+        ≡ step (open_pass (pass_of pass)) (machine tape (lent_arrays value.now adjoint.old serial.now count.now child.now partial.now)) }
 {
     let planned = crate::planning::plan(pass, tape, value, adjoint, serial, count, child, partial);
     open_as(planned, tape, adjoint)
@@ -50,8 +50,8 @@ pub fn take_slice(
     partial: &[f64],
     nodes: usize,
 ) -> Sliced
-    ensures { sliced_outcome result (lent_after value adjoint serial count child partial)
-        ≡ step (slice nodes) (machine tape (lent_before value adjoint serial count child partial)) }
+    ensures { sliced_outcome result (lent_arrays value.now adjoint.new serial.now count.now child.now partial.now)
+        ≡ step (slice nodes) (machine tape (lent_arrays value.now adjoint.old serial.now count.now child.now partial.now)) }
 {
     let planned = crate::planning::plan_slice(
         nodes, tape, value, adjoint, serial, count, child, partial,

@@ -135,16 +135,16 @@ module _ (M : Machine floats) where
 
 -- refusals 5 and 6, as the table has them and as the code goes about them
 room_so : (M : Machine floats) (v : Float) (es : List (Edge floats)) (a b d : Bool)
-    → unless (first (when (a && b) Full ∷ when (a && d) SerialsSpent ∷ [])) M (cond a (appended M v es) (detached v, M))
+    → unless (first (none ∷ when (a && b) Full ∷ when (a && d) SerialsSpent ∷ none ∷ none ∷ [])) M (cond a (appended M v es) (detached v, M))
     ≡ cond a (cond b (refused Full, M) (cond d (refused SerialsSpent, M) (appended M v es))) (detached v, M)
 room_so M v es true true d = refl
 room_so M v es true false true = refl
 room_so M v es true false false = refl
 room_so M v es false b d = refl
 
--- the four rows that a recording can meet behind its shape, over whatever the first two give
+-- the four rows that a recording can meet behind its shape, over whatever the first two give; the others ask nothing of it
 rows_so : (M : Machine floats) (o q : Option Refusal) (v : Float) (es : List (Edge floats)) (a b d : Bool)
-    → unless (first (o ∷ q ∷ when (a && b) Full ∷ when (a && d) SerialsSpent ∷ [])) M (cond a (appended M v es) (detached v, M))
+    → unless (first (o ∷ q ∷ none ∷ when (a && b) Full ∷ when (a && d) SerialsSpent ∷ none ∷ none ∷ [])) M (cond a (appended M v es) (detached v, M))
     ≡ unless o M (unless q M (cond a (cond b (refused Full, M) (cond d (refused SerialsSpent, M) (appended M v es))) (detached v, M)))
 rows_so M none none v es a b d = room_so M v es a b d
 rows_so M none (some r) v es a b d = refl

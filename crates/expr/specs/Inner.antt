@@ -3,9 +3,8 @@
 use Rattle.std.specs.Prelude.{ℕ, ◌+◌, ◌≤◌, ◌<◌, ◌≡◌, Bool, true, false, cond, List, [], ◌∷◌, ◌++◌, eqb, length, get_or, Float}
 use Rattle.std.proofs.Math.Option.{Option, none, some}
 use Rattle.std.specs.Float.{nan}
-use Rattle.std.specs.Borrow.{Bor}
 use Rattle.tape.specs.Numbers.{floats}
-use Rattle.tape.specs.Machine.{Arrays, Machine, arrays, capacity, slot, most_nodes, most_edges}
+use Rattle.tape.specs.Machine.{Arrays, Machine, capacity, slot, most_nodes, most_edges}
 use Rattle.tape.specs.Handles.{usable_as}
 use Rattle.tape.specs.Handles as Handles
 use Rattle.tape.specs.Operations.{row, known, apply}
@@ -30,11 +29,6 @@ use Rattle.expr.specs.declared.operations.Row.TheVariants as code
 use Rattle.expr.specs.declared.operations.Supplied.{Supplied}
 use Rattle.expr.specs.declared.edges.Edges.{Edges}
 use Rattle.expr.specs.declared.recording.Decision.{Decision}
-
--- the six arrays as a private function is lent them
-abbrev pub lent_now : Bor (List Float) → Bor (List Float) → Bor (List ℕ) → Bor (List ℕ) → Bor (List ℕ) → Bor (List Float)
-    → Arrays floats
-lent_now v a s c h p = arrays v.now a.now s.now c.now h.now p.now
 
 -- an index that fits a child's 16 bits
 abbrev pub Small : Operand → Type 0

@@ -9,7 +9,7 @@ ghost use Rattle.expr.specs.Inner.{Small, edges_in};
 
 use tape::{MOST_EDGES, Operand};
 
-#[derive(Drop)]
+#[derive(Clone, Copy)]
 pub(crate) struct Edges {
     pub count: usize,
     pub child: [u16; MOST_EDGES],

@@ -2,6 +2,8 @@
 //
 // `record` takes any operation by its number, for which `operations` has names; `new_leaf` and `put_on_tape` record
 // leaves.
+#![tactic(auto)]
+
 mod edges;
 pub mod operations;
 pub mod operators;

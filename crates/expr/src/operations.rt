@@ -28,7 +28,7 @@ pub const SUPPLIED_TWO: u8 = 9;
 pub const SQRT: u8 = 10;
 
 // What the host supplies for operations 8 and 9.
-#[derive(Drop)]
+#[derive(Clone, Copy)]
 pub struct Supplied {
     pub value: f64,
     pub left: f64,
@@ -45,7 +45,7 @@ impl Supplied {
 }
 
 // A row of the table: the value, and the partials that the table gives.
-#[derive(Drop)]
+#[derive(Clone, Copy)]
 pub(crate) enum Row {
     Unknown,
     Leaf(f64),

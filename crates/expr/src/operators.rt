@@ -1,7 +1,7 @@
 // The two recordings that the Rust has as methods of their own: both record a leaf, or answer the value alone while the
 // tape is inactive, and refuse as `record` does.
 ghost use Rattle.std.specs.Prelude.{◌≡◌};
-ghost use Rattle.tape.specs.Machine.{lent_before, lent_after, machine};
+ghost use Rattle.tape.specs.Machine.{lent_arrays, machine};
 ghost use Rattle.tape.specs.Handles.{operand};
 ghost use Rattle.tape.specs.Steps.{step};
 ghost use Rattle.expr.specs.Outcome.{outcome};
@@ -22,8 +22,8 @@ pub fn new_leaf(
     partial: &mut [f64],
     x: f64,
 ) -> Recorded
-    ensures { outcome result (lent_after value adjoint serial count child partial)
-        ≡ step (new_leaf x) (machine tape (lent_before value adjoint serial count child partial)) }
+    ensures { outcome result (lent_arrays value.new adjoint.new serial.new count.new child.new partial.new)
+        ≡ step (new_leaf x) (machine tape (lent_arrays value.old adjoint.old serial.old count.old child.old partial.old)) }
 {
     crate::recording::record(
         tape,
@@ -51,8 +51,8 @@ pub fn put_on_tape(
     partial: &mut [f64],
     x: Operand,
 ) -> Recorded
-    ensures { outcome result (lent_after value adjoint serial count child partial)
-        ≡ step (put_on_tape (operand x)) (machine tape (lent_before value adjoint serial count child partial)) }
+    ensures { outcome result (lent_arrays value.new adjoint.new serial.new count.new child.new partial.new)
+        ≡ step (put_on_tape (operand x)) (machine tape (lent_arrays value.old adjoint.old serial.old count.old child.old partial.old)) }
 {
     crate::recording::record(
         tape,

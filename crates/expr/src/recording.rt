@@ -1,14 +1,14 @@
 // Recording one operation: refusals are settled first, in document 01's order, and the node is written after.
 ghost use Rattle.std.specs.Prelude.{◌≤◌, ◌<◌, ◌≡◌, true, get_or};
 ghost use Rattle.std.specs.Float.{nan};
-ghost use Rattle.tape.specs.Machine.{machine, lent_after, lent_before, most_nodes, most_edges};
+ghost use Rattle.tape.specs.Machine.{machine, lent_arrays, most_nodes, most_edges};
 ghost use Rattle.tape.specs.Handles.{operand};
 ghost use Rattle.tape.specs.Calls.{operate, with_node};
 ghost use Rattle.tape.specs.Admission.{fits};
 ghost use Rattle.tape.specs.Refusals.{last_serial};
 ghost use Rattle.tape.specs.Steps.{step};
 ghost use Rattle.expr.specs.Outcome.{given, outcome};
-ghost use Rattle.expr.specs.Inner.{lent_now, Small, Room, Decides, recording_refusal, row_for, usable_operand, both_usable, operand_value_in, row_refusal, refusal_in, edges_in, appended, recorded_if_room};
+ghost use Rattle.expr.specs.Inner.{Small, Room, Decides, recording_refusal, row_for, usable_operand, both_usable, operand_value_in, row_refusal, refusal_in, edges_in, appended, recorded_if_room};
 
 use crate::edges::Edges;
 use crate::operations::{Row, Supplied};
@@ -16,7 +16,7 @@ use tape::{Admission, Caller, Handle, Lengths, MOST_EDGES, Operand, Refusal, Tap
 
 // What a recording answers: a value and its node's handle, or a value alone where the tape is inactive, with the state
 // after it; or the refusal and the state as it was.
-#[derive(Drop)]
+#[derive(Clone, Copy)]
 pub enum Recorded {
     Node(f64, Handle, Tape),
     Detached(f64, Tape),
@@ -39,9 +39,9 @@ pub fn record(
     right: Operand,
     supplied: Supplied,
 ) -> Recorded
-    ensures { outcome result (lent_after value adjoint serial count child partial)
+    ensures { outcome result (lent_arrays value.new adjoint.new serial.new count.new child.new partial.new)
         ≡ step (operate op (operand left) (operand right) (given supplied))
-        (machine tape (lent_before value adjoint serial count child partial)) }
+        (machine tape (lent_arrays value.old adjoint.old serial.old count.old child.old partial.old)) }
 {
     let lent = Lengths::of(&*value, &*adjoint, &*serial, &*count, &*child, &*partial);
     let decision = decide(tape, lent, &*value, &*serial, op, left, right, supplied);
@@ -70,7 +70,7 @@ const LAST_SERIAL: u64 = 18_446_744_073_709_551_615;
 
 // What the operation and its operands come to, before the tape is asked for room: granted, with the node's value and
 // edges beside it, or refused.
-#[derive(Drop)]
+#[derive(Clone, Copy)]
 pub(crate) struct Decision {
     pub admission: Admission,
     pub value: f64,
@@ -223,9 +223,9 @@ fn record_if_room(
     v: f64,
     edges: Edges,
 ) -> Recorded
-    requires { (edges.count ≤ most_edges) × (fits true (machine tape (lent_now value adjoint serial count child partial)) ≡ true) }
-    ensures { outcome result (lent_after value adjoint serial count child partial)
-        ≡ recorded_if_room (machine tape (lent_before value adjoint serial count child partial)) v (edges_in edges) }
+    requires { (edges.count ≤ most_edges) × (fits true (machine tape (lent_arrays value.old adjoint.old serial.old count.old child.old partial.old)) ≡ true) }
+    ensures { outcome result (lent_arrays value.new adjoint.new serial.new count.new child.new partial.new)
+        ≡ recorded_if_room (machine tape (lent_arrays value.old adjoint.old serial.old count.old child.old partial.old)) v (edges_in edges) }
 {
     if !tape.active {
         return Recorded::Detached(v, tape);
@@ -252,9 +252,9 @@ fn append(
     v: f64,
     edges: Edges,
 ) -> Recorded
-    requires { (edges.count ≤ most_edges) × (tape.next < last_serial) × Room tape.length (lent_now value adjoint serial count child partial) }
-    ensures { outcome result (lent_after value adjoint serial count child partial)
-        ≡ appended (machine tape (lent_before value adjoint serial count child partial)) v (edges_in edges) }
+    requires { (edges.count ≤ most_edges) × (tape.next < last_serial) × Room tape.length (lent_arrays value.old adjoint.old serial.old count.old child.old partial.old) }
+    ensures { outcome result (lent_arrays value.new adjoint.new serial.new count.new child.new partial.new)
+        ≡ appended (machine tape (lent_arrays value.old adjoint.old serial.old count.old child.old partial.old)) v (edges_in edges) }
 {
     let handle = Handle {
         index: tape.length,
@@ -280,9 +280,9 @@ fn write(
     v: f64,
     edges: Edges,
 )
-    requires { (edges.count ≤ most_edges) × Room handle.index (lent_now value adjoint serial count child partial) }
-    ensures { lent_after value adjoint serial count child partial
-        ≡ with_node handle (lent_before value adjoint serial count child partial) v (edges_in edges) }
+    requires { (edges.count ≤ most_edges) × Room handle.index (lent_arrays value.old adjoint.old serial.old count.old child.old partial.old) }
+    ensures { lent_arrays value.new adjoint.new serial.new count.new child.new partial.new
+        ≡ with_node handle (lent_arrays value.old adjoint.old serial.old count.old child.old partial.old) v (edges_in edges) }
 {
     let at = handle.index;
     value[at] = v;

@@ -77,7 +77,7 @@ module _ {j : ℕ} {M : Machine floats} (h : Held j M) (few : j ≤ most_session
         let so : refusal_of (operate k left right nothing) M ≡ some Full = rw (lent_fits, turn caller.Recording refl, there, live, h.shaped.active, e) in
         subst (Meets M (some l)) (sym (ap (λ x. x.0.number) (demand_1.refused (operate k left right nothing) M Full so))) (full l refl (ap (λ d. refusal_of d M) same ∙ so) (eqb-true _ _ e ∙ h.shaped.large))
     by_room false e =
-        answers_so (operate k left right nothing) (rw (lent_fits, turn caller.Recording refl, there, live, h.shaped.active, e, h.shaped.active, ne_eqb M.state.next last_serial (λ e. omega (arith, h.shaped.next))))
+        answers_so (operate k left right nothing) (rw (lent_fits, turn caller.Recording refl, there, live, h.shaped.active, e, ne_eqb M.state.next last_serial (λ e. omega (arith, h.shaped.next))))
 
   moved_so : {read : Option Line} (m : Move) → in_turn M.state.walk (mover m) ≡ true → Meets M read (step (move m) M).0.number
   moved_so {read} m t =

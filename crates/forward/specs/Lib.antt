@@ -3,5 +3,6 @@
 -- `declared` has the code's own structs and enum, as the checker reads them off src/.
 pub mod Forward
 pub mod Number
+pub mod Inner
 pub mod Rows
 pub mod Values

@@ -3,7 +3,7 @@ ghost use Rattle.std.specs.Prelude.{◌≡◌};
 ghost use Rattle.forward.specs.Forward.{comparison};
 
 // What Rust's partial_cmp answers, with NotComparable for None: a NaN compares with nothing.
-#[derive(Drop)]
+#[derive(Clone, Copy)]
 pub enum Ordering {
     Less,
     Equal,

@@ -3,11 +3,14 @@
 //
 // Every method takes its numbers by value, asks nothing of them, and promises the rule of specs/Forward.antt at its
 // order.
+#![tactic(auto)]
+
 pub mod comparison;
 pub mod order1;
 pub mod order2;
 pub mod order3;
 pub mod order4;
+mod remainder;
 
 pub use comparison::Ordering;
 pub use order1::Fwd1;

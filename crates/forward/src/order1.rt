@@ -7,8 +7,9 @@ ghost use Rattle.forward.specs.Forward.{sqrt, remainder, remainder_plain, compar
 ghost use Rattle.forward.specs.Number.{number1};
 
 use crate::comparison::Ordering;
+use crate::remainder;
 
-#[derive(Drop)]
+#[derive(Clone, Copy)]
 pub struct Fwd1 {
     pub val: f64,
     pub dot: f64,
@@ -181,14 +182,14 @@ impl Fwd1 {
     pub fn rem(self, r: Fwd1) -> Fwd1
         ensures { number1 result ≡ remainder 1 (number1 self) (number1 r) }
     {
-        Fwd1::constant(self.val % r.val)
+        Fwd1::constant(remainder::remainder(self.val, r.val))
     }
 
     // The constant of the value's remainder by k.
     pub fn rem_f64(self, k: f64) -> Fwd1
         ensures { number1 result ≡ remainder_plain 1 (number1 self) k }
     {
-        Fwd1::constant(self.val % k)
+        Fwd1::constant(remainder::remainder(self.val, k))
     }
 
     // self if its value >= 0.0, else -self.

@@ -8,8 +8,9 @@ ghost use Rattle.forward.specs.Number.{number2};
 
 use crate::comparison::Ordering;
 use crate::order1::Fwd1;
+use crate::remainder;
 
-#[derive(Drop)]
+#[derive(Clone, Copy)]
 pub struct Fwd2 {
     pub val: Fwd1,
     pub dot: Fwd1,
@@ -193,14 +194,14 @@ impl Fwd2 {
     pub fn rem(self, r: Fwd2) -> Fwd2
         ensures { number2 result ≡ remainder 2 (number2 self) (number2 r) }
     {
-        Fwd2::constant(self.value() % r.value())
+        Fwd2::constant(remainder::remainder(self.value(), r.value()))
     }
 
     // The constant of the value's remainder by k.
     pub fn rem_f64(self, k: f64) -> Fwd2
         ensures { number2 result ≡ remainder_plain 2 (number2 self) k }
     {
-        Fwd2::constant(self.value() % k)
+        Fwd2::constant(remainder::remainder(self.value(), k))
     }
 
     // self if its value >= 0.0, else -self.

@@ -8,8 +8,9 @@ ghost use Rattle.forward.specs.Number.{number3};
 
 use crate::comparison::Ordering;
 use crate::order2::Fwd2;
+use crate::remainder;
 
-#[derive(Drop)]
+#[derive(Clone, Copy)]
 pub struct Fwd3 {
     pub val: Fwd2,
     pub dot: Fwd2,
@@ -200,14 +201,14 @@ impl Fwd3 {
     pub fn rem(self, r: Fwd3) -> Fwd3
         ensures { number3 result ≡ remainder 3 (number3 self) (number3 r) }
     {
-        Fwd3::constant(self.value() % r.value())
+        Fwd3::constant(remainder::remainder(self.value(), r.value()))
     }
 
     // The constant of the value's remainder by k.
     pub fn rem_f64(self, k: f64) -> Fwd3
         ensures { number3 result ≡ remainder_plain 3 (number3 self) k }
     {
-        Fwd3::constant(self.value() % k)
+        Fwd3::constant(remainder::remainder(self.value(), k))
     }
 
     // self if its value >= 0.0, else -self.

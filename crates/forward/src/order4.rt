@@ -8,8 +8,9 @@ ghost use Rattle.forward.specs.Number.{number4};
 
 use crate::comparison::Ordering;
 use crate::order3::Fwd3;
+use crate::remainder;
 
-#[derive(Drop)]
+#[derive(Clone, Copy)]
 pub struct Fwd4 {
     pub val: Fwd3,
     pub dot: Fwd3,
@@ -207,14 +208,14 @@ impl Fwd4 {
     pub fn rem(self, r: Fwd4) -> Fwd4
         ensures { number4 result ≡ remainder 4 (number4 self) (number4 r) }
     {
-        Fwd4::constant(self.value() % r.value())
+        Fwd4::constant(remainder::remainder(self.value(), r.value()))
     }
 
     // The constant of the value's remainder by k.
     pub fn rem_f64(self, k: f64) -> Fwd4
         ensures { number4 result ≡ remainder_plain 4 (number4 self) k }
     {
-        Fwd4::constant(self.value() % k)
+        Fwd4::constant(remainder::remainder(self.value(), k))
     }
 
     // self if its value >= 0.0, else -self.

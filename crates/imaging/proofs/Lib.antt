@@ -1,3 +1,4 @@
 pub mod Counted
 pub mod Text
 pub mod Proved
+pub mod Searched

@@ -1,8 +1,8 @@
 -- Each statement of specs/ with its proof.
-use Rattle.std.proofs.Common.{refl}
-use lib.Ieee.{of_int, of_bits, add, sub, mul, div, neg, le, lt, to_unsigned}
-use Rattle.imaging.specs.Spread.{SpreadRows}
-use Rattle.imaging.specs.Text.{Rows}
+use Rattle.std.proofs.Common.{◌≡◌, false, negsuc, sym, refl, ◌∙◌}
+use lib.Ieee.{fin, of_int, of_bits, add, sub, mul, div, neg, le, lt, to_unsigned}
+use Rattle.imaging.specs.Spread.{SpreadRows, one, turn_variance, seen_variance}
+use Rattle.imaging.specs.Text.{Rows, float, fraction}
 
 -- by computation
 pub rows : Rows
@@ -33,6 +33,30 @@ rows = record {
   nought = refl;
 }
 
+-- Each side is worked out by itself, to a number and a power of 2.
+two_turns : turn_variance (fraction 2 65536) (float 2) one ≡ fin false 1 (negsuc 15)
+unfolding of_int of_bits add sub mul div neg lt
+two_turns = refl
+
+part_of_65536 : fraction 1 65536 ≡ fin false 1 (negsuc 15)
+unfolding of_int div
+part_of_65536 = refl
+
+one_turn : turn_variance (float 0) (float 1) one ≡ float 0
+unfolding of_int of_bits add sub mul div neg lt
+one_turn = refl
+
+nine_intervals : seen_variance (fraction 81 256) (float 9) (float 27) one ≡ fin false 1 (negsuc 10)
+unfolding of_int of_bits add sub mul div neg
+nine_intervals = refl
+
+part_of_2048 : fraction 1 2048 ≡ fin false 1 (negsuc 10)
+unfolding of_int div
+part_of_2048 = refl
+
 pub spread_rows : SpreadRows
-unfolding of_int of_bits sub mul div lt
-spread_rows = record { of_two_turns = refl; of_one_turn = refl; of_nine_intervals = refl }
+spread_rows = record {
+  of_two_turns = two_turns ∙ sym part_of_65536;
+  of_one_turn = one_turn;
+  of_nine_intervals = nine_intervals ∙ sym part_of_2048;
+}

@@ -19,7 +19,7 @@ pub(crate) fn read_number(text: &[u8]) -> u32
 // The whole digits of 64 bits, a point, and up to eleven decimals.
 pub const WIDTH: usize = 32;
 
-#[derive(Drop)]
+#[derive(Clone, Copy)]
 pub enum Rounded {
     To(u64),
     OutOfRange,

@@ -29,7 +29,7 @@ const SETTLED: f64 = 1.0 / 268_435_456.0;
 
 // A step: where it was taken, the misfit an interval there, the edges that its passes visited, what all passes up to it
 // came to, and where it leads; or its refusal.
-#[derive(Drop)]
+#[derive(Clone, Copy)]
 pub struct Step {
     pub tape: Tape,
     pub drive: Drive,
@@ -41,7 +41,7 @@ pub struct Step {
 }
 
 // The steps that were taken, in order, and the last of them.
-#[derive(Drop)]
+#[derive(Clone, Copy)]
 pub struct Steps {
     pub taken: usize,
     pub last: Step,
@@ -53,7 +53,7 @@ pub struct Steps {
 
 // Where a step is taken, of how many intervals, and how much pulls there: turns whose index time does, and the cells of
 // the intervals that do.
-#[derive(Drop)]
+#[derive(Clone, Copy)]
 pub struct Place {
     pub drive: Drive,
     pub intervals: f64,
@@ -62,14 +62,14 @@ pub struct Place {
 }
 
 // The model of a step, and what its turns came to so far.
-#[derive(Drop)]
+#[derive(Clone, Copy)]
 struct Gathered {
     model: Model,
     turned: Turned,
 }
 
 // The adjoint of a parameter, or the refusal to read it.
-#[derive(Drop)]
+#[derive(Clone, Copy)]
 struct Slope {
     x: f64,
     refusal: u8,

@@ -23,7 +23,7 @@ pub type Times = [u32; MOST_REVOLUTIONS];
 // How many intervals have passed before the first revolution, which is none, and after each.
 pub type Ends = [usize; ENDS];
 
-#[derive(Drop)]
+#[derive(Clone, Copy)]
 pub enum Fault {
     // The file itself.
     Missing,
@@ -59,7 +59,7 @@ pub enum Fault {
 }
 
 // How far a file was read. An entry is an interval or begins a revolution, so that both together count the entries.
-#[derive(Drop)]
+#[derive(Clone, Copy)]
 pub struct Reading {
     pub revolutions: usize,
     pub intervals: usize,

@@ -9,14 +9,14 @@ use crate::{digits, flux};
 pub const LONGEST: usize = 19;
 
 // What was read, and how many bytes of a line stand unfinished.
-#[derive(Drop)]
+#[derive(Clone, Copy)]
 pub struct Progress {
     pub reading: Reading,
     pub pending: usize,
 }
 
 // What a line says.
-#[derive(Drop)]
+#[derive(Clone, Copy)]
 pub enum Entry {
     Revolution(u32),
     Interval(u32),
@@ -31,8 +31,8 @@ pub(crate) fn read_piece(
     ends: &mut Ends,
     ticks: &mut [u32],
 ) -> Progress
-    requires* { do ⌜ Within before.reading × (before.pending ≤ (← ⟦line.len()⟧)) ⌝ }
-    ensures* { do ⌜ Within result.reading × (result.pending ≤ (← (⟦line.len()⟧).entry)) ⌝ }
+    requires { Within before.reading × (before.pending ≤ length line.old) }
+    ensures { Within result.reading × (result.pending ≤ length line.old) }
 {
     let mut progress = before;
     for i in 0..piece.len() {
@@ -53,8 +53,8 @@ fn take_byte(
     ends: &mut Ends,
     ticks: &mut [u32],
 ) -> Progress
-    requires* { do ⌜ Within before.reading × (before.pending ≤ (← ⟦line.len()⟧)) ⌝ }
-    ensures* { do ⌜ Within result.reading × (result.pending ≤ (← (⟦line.len()⟧).entry)) ⌝ }
+    requires { Within before.reading × (before.pending ≤ length line.old) }
+    ensures { Within result.reading × (result.pending ≤ length line.old) }
 {
     let reading = before.reading;
     let pending = before.pending;

@@ -1,5 +1,7 @@
 // Fits drive speed and bit-cell time to recorded flux, all turns kept: `imaging [-v] FILE.. [--slice N FILE..]`. The
 // files behind `--slice N` are fitted with every pass in slices of N nodes.
+#![tactic(auto)]
+
 mod arguments;
 mod digits;
 mod file;
@@ -22,40 +24,45 @@ ghost use Rattle.imaging.specs.Tally.{files};
 use flux::{Ends, Reading, Times};
 use out::Out;
 use slices::Way;
+use std::env::Env;
+use std::rt::Files;
 use tally::Tally;
 
+// The bytes of the longest name of a file, and one more.
+const LONGEST_NAME: usize = 4_096;
+
 // What has been written, and of how many files.
-#[derive(Drop)]
+#[derive(Clone, Copy)]
 pub struct Told {
     pub out: Out,
     pub tally: Tally,
 }
 
 // What has been written, and whether the file was fitted.
-#[derive(Drop)]
+#[derive(Clone, Copy)]
 pub struct Ended {
     pub out: Out,
     pub fitted: bool,
 }
 
 // What is asked of a file's fit: that its steps are shown, and how its passes are taken.
-#[derive(Drop)]
+#[derive(Clone, Copy)]
 pub struct Asked {
     pub verbose: bool,
     pub way: Way,
 }
 
-fn main() {
-    let count = os::arg_count();
-    let verbose = arguments::is_verbose();
+fn main(rt: HostRuntime) {
+    let count = arguments::count(&rt);
+    let verbose = arguments::is_verbose(&rt);
     let first = first_file(verbose);
-    let slice = arguments::find_slice(first, count);
+    let slice = arguments::find_slice(&rt, first, count);
     let way = Way::InOneGo;
-    let whole = fit_all(Told::new(), first, slice, Asked { verbose, way });
-    let told = fit_in_slices(whole, slice, count, verbose);
+    let whole = fit_all(&rt, Told::new(), first, slice, Asked { verbose, way });
+    let told = fit_in_slices(&rt, whole, slice, count, verbose);
     let out = told.out;
     let tally = told.tally;
-    tally::last_line(out, tally);
+    tally::last_line(&rt, out, tally);
 }
 
 fn first_file(verbose: bool) -> usize
@@ -68,7 +75,13 @@ fn first_file(verbose: bool) -> usize
 }
 
 // The files behind the word `--slice` and its number, of which there may be none.
-fn fit_in_slices(before: Told, slice: usize, arguments: usize, verbose: bool) -> Told
+fn fit_in_slices(
+    rt: &(impl Env + Files + Print),
+    before: Told,
+    slice: usize,
+    arguments: usize,
+    verbose: bool,
+) -> Told
     requires { files before.tally ≤ slice }
     ensures { files result.tally ≡ files before.tally + (arguments - (slice + 2)) }
 {
@@ -79,18 +92,24 @@ fn fit_in_slices(before: Told, slice: usize, arguments: usize, verbose: bool) ->
     if size >= arguments {
         return before;
     }
-    let way = Way::InSlices(arguments::slice_size(size));
-    fit_all(before, size + 1, arguments, Asked { verbose, way })
+    let way = Way::InSlices(arguments::slice_size(rt, size));
+    fit_all(rt, before, size + 1, arguments, Asked { verbose, way })
 }
 
 // The files from one argument on, up to another.
-fn fit_all(before: Told, first: usize, end: usize, asked: Asked) -> Told
+fn fit_all(
+    rt: &(impl Env + Files + Print),
+    before: Told,
+    first: usize,
+    end: usize,
+    asked: Asked,
+) -> Told
     requires { files before.tally ≤ first }
     ensures { files result.tally ≡ files before.tally + (end - first) }
 {
     let mut told = before;
     for i in first..end {
-        told = told.with(i, asked);
+        told = told.with(rt, i, asked);
     }
     told
 }
@@ -106,13 +125,13 @@ impl Told {
     }
 
     // The file of one argument more.
-    fn with(self, argument: usize, asked: Asked) -> Told
+    fn with(self, rt: &(impl Env + Files + Print), argument: usize, asked: Asked) -> Told
         requires { files self.tally + 1 < 2 ^ 64 }
         ensures { files result.tally ≡ files self.tally + 1 }
     {
         let out = self.out;
         let tally = self.tally;
-        let ended = fit_argument(out, argument, asked);
+        let ended = fit_argument(rt, out, argument, asked);
         let out = ended.out;
         Told {
             out,
@@ -121,32 +140,42 @@ impl Told {
     }
 }
 
-fn fit_argument(out: Out, argument: usize, asked: Asked) -> Ended {
-    let mut name = io::buffer();
-    let length = os::arg(argument, &mut name);
+fn fit_argument(rt: &(impl Env + Files + Print), out: Out, argument: usize, asked: Asked) -> Ended {
+    let mut name = [0u8; LONGEST_NAME];
+    let length = arguments::read(rt, argument, &mut name);
     if length == 0 {
         return Ended {
-            out: report::no_name(out, argument),
+            out: report::no_name(rt, out, argument),
             fitted: false,
         };
     }
-    fit_file(out, &mut name[..length], asked)
+    fit_file(rt, out, &mut name[..length], asked)
 }
 
-fn fit_file(out: Out, name: &mut [u8], asked: Asked) -> Ended {
+fn fit_file(rt: &(impl Files + Print), out: Out, name: &mut [u8], asked: Asked) -> Ended {
+    let mut space = [0u32; flux::MOST_INTERVALS];
+    fit_in(rt, out, name, &mut space, asked)
+}
+
+// The intervals go into what is lent.
+fn fit_in(
+    rt: &(impl Files + Print),
+    out: Out,
+    name: &mut [u8],
+    ticks: &mut [u32],
+    asked: Asked,
+) -> Ended {
     let mut times = [0u32; flux::MOST_REVOLUTIONS];
     let mut ends = [0usize; flux::ENDS];
-    let mut space = [0u32; flux::MOST_INTERVALS];
-    let ticks: &mut [u32] = &mut space;
-    let reading = file::read(name, &mut times, &mut ends, ticks);
+    let reading = file::read(rt, name, &mut times, &mut ends, ticks);
     mask(name);
     if reading.fault_line > 0 {
         return Ended {
-            out: report::fault(out, name, reading),
+            out: report::fault(rt, out, name, reading),
             fitted: false,
         };
     }
-    fit_turns(out, name, reading, &times, &ends, ticks, asked)
+    fit_turns(rt, out, name, reading, &times, &ends, ticks, asked)
 }
 
 // A name goes into one line, whatever it is made of.
@@ -164,6 +193,7 @@ fn shown(byte: u8) -> u8 {
 }
 
 fn fit_turns(
+    rt: &impl Print,
     out: Out,
     name: &[u8],
     reading: Reading,
@@ -180,11 +210,20 @@ fn fit_turns(
     let steps = fit::fit(reading, times, ends, ticks, median, way);
     let judged = verdict::judge(steps, reading, times, ends, ticks, median);
     let by_cells = judged.by_cells;
-    let told = report::verdict(out, name, judged, steps.last, reading);
-    let told = report::by_cells(told, by_cells);
-    let told = report::turns(told, revolutions, times, ends, ticks, judged.seen, median);
+    let told = report::verdict(rt, out, name, judged, steps.last, reading);
+    let told = report::by_cells(rt, told, by_cells);
+    let told = report::turns(
+        rt,
+        told,
+        revolutions,
+        times,
+        ends,
+        ticks,
+        judged.seen,
+        median,
+    );
     Ended {
-        out: report::steps(told, steps, asked.verbose),
+        out: report::steps(rt, told, steps, asked.verbose),
         fitted: judged.is_fitted(),
     }
 }

@@ -4,7 +4,7 @@ use expr::{ADD, DIVIDE, LEAF, MIN, MULTIPLY, Recorded, SUBTRACT, Supplied};
 use tape::{Moved, Operand, Refusal, Tape};
 
 // The two parameters, relative to 300 rpm and to bit cells of 2,000 ns.
-#[derive(Drop)]
+#[derive(Clone, Copy)]
 pub struct Drive {
     pub speed: f64,
     pub cell: f64,
@@ -18,7 +18,7 @@ impl Drive {
 }
 
 // An operation of document 01's table, with its operands.
-#[derive(Drop)]
+#[derive(Clone, Copy)]
 pub struct Operation {
     pub operation: u8,
     pub left: Operand,
@@ -27,7 +27,7 @@ pub struct Operation {
 
 // What was recorded last, as an operand and as a number, and the tape after it; or the first refusal, after which
 // nothing is recorded.
-#[derive(Drop)]
+#[derive(Clone, Copy)]
 pub struct Made {
     pub tape: Tape,
     pub x: Operand,
@@ -37,7 +37,7 @@ pub struct Made {
 
 // The model's nodes: the two parameters, the time of a turn relative to nominal, and how long a cell is as this drive
 // reads it.
-#[derive(Drop)]
+#[derive(Clone, Copy)]
 pub struct Model {
     pub speed: Operand,
     pub cell: Operand,

@@ -20,126 +20,157 @@ const RPM: f64 = 300.0;
 const NANOSECONDS: f64 = 2_000.0;
 
 // That an argument is empty, or longer than any file's name.
-pub(crate) fn no_name(out: Out, argument: usize) -> Out {
-    out.text(b"argument ")
-        .number(argument)
-        .text(b": not the name of a file\n")
+pub(crate) fn no_name(rt: &impl Print, out: Out, argument: usize) -> Out {
+    out.text(rt, b"argument ")
+        .number(rt, argument)
+        .text(rt, b": not the name of a file\n")
 }
 
-pub(crate) fn verdict(out: Out, name: &[u8], judged: Judged, last: Step, reading: Reading) -> Out {
+pub(crate) fn verdict(
+    rt: &impl Print,
+    out: Out,
+    name: &[u8],
+    judged: Judged,
+    last: Step,
+    reading: Reading,
+) -> Out {
     let drive = last.drive;
-    let named = out.text(name).text(b": ");
-    let told = verdict_words(named, judged, drive, reading);
-    services(told, last.passes).text(b"\n")
+    let named = out.text(rt, name).text(rt, b": ");
+    let told = verdict_words(rt, named, judged, drive, reading);
+    services(rt, told, last.passes).text(rt, b"\n")
 }
 
-fn verdict_words(out: Out, judged: Judged, drive: Drive, reading: Reading) -> Out {
+fn verdict_words(rt: &impl Print, out: Out, judged: Judged, drive: Drive, reading: Reading) -> Out {
     let all = reading.intervals;
     if judged.is_fitted() {
-        let told = fitted(out, drive, judged.spread);
-        return rests_on(told, judged.off, reading.revolutions, all);
+        let told = fitted(rt, out, drive, judged.spread);
+        return rests_on(rt, told, judged.off, reading.revolutions, all);
     }
     let verdict = judged.verdict;
-    why_not(out.text(b"not fitted: "), verdict, all)
+    why_not(rt, out.text(rt, b"not fitted: "), verdict, all)
 }
 
 // Where passes were cut, how often the reader's motor could be served.
-fn services(out: Out, passes: Passes) -> Out {
+fn services(rt: &impl Print, out: Out, passes: Passes) -> Out {
     let way = passes.way;
     match way {
         Way::InOneGo => out,
         Way::InSlices(_) => {
-            out.text(b"; ")
-                .counted(passes.slices, b"slice")
-                .text(b", at most ")
-                .counted(passes.most, b"node")
-                .text(b" between two services")
+            out.text(rt, b"; ")
+                .counted(rt, passes.slices, b"slice")
+                .text(rt, b", at most ")
+                .counted(rt, passes.most, b"node")
+                .text(rt, b" between two services")
         }
     }
 }
 
-fn fitted(out: Out, drive: Drive, spread: Spread) -> Out {
-    let named = out.text(b"fitted: speed ");
+fn fitted(rt: &impl Print, out: Out, drive: Drive, spread: Spread) -> Out {
+    let named = out.text(rt, b"fitted: speed ");
     let speed = spread.speed;
-    let told = result(named, drive.speed, speed, RPM, b" rpm", b"index time").text(b", cell ");
+    let told = result(rt, named, drive.speed, speed, RPM, b" rpm", b"index time").text(
+        rt, b", cell ",
+    );
     let cell = spread.cell;
-    result(told, drive.cell, cell, NANOSECONDS, b" ns", b"interval")
-        .text(b", rms ")
-        .decimal(spread.rms * NANOSECONDS, 1)
-        .text(b" ns; ")
+    result(rt, told, drive.cell, cell, NANOSECONDS, b" ns", b"interval")
+        .text(rt, b", rms ")
+        .decimal(rt, spread.rms * NANOSECONDS, 1)
+        .text(rt, b" ns; ")
 }
 
 // A setting in its unit, with its error or why it has none.
-fn result(out: Out, x: f64, error: Error, nominal: f64, unit: &[u8], one: &[u8]) -> Out {
+fn result(
+    rt: &impl Print,
+    out: Out,
+    x: f64,
+    error: Error,
+    nominal: f64,
+    unit: &[u8],
+    one: &[u8],
+) -> Out {
     match error {
-        Error::Known(e) => out.with_error(x * nominal, e * nominal).text(unit),
+        Error::Known(e) => out.with_error(rt, x * nominal, e * nominal).text(rt, unit),
         Error::OfOne => {
-            out.decimal(x * nominal, 3)
-                .text(unit)
-                .text(b" (one ")
-                .text(one)
-                .text(b", so no standard error)")
+            out.decimal(rt, x * nominal, 3)
+                .text(rt, unit)
+                .text(rt, b" (one ")
+                .text(rt, one)
+                .text(rt, b", so no standard error)")
         }
     }
 }
 
-fn rests_on(out: Out, off: usize, turns: usize, all: usize) -> Out {
-    some_of(out.counted(turns, b"turn").text(b", "), off, all).text(b" off")
+fn rests_on(rt: &impl Print, out: Out, off: usize, turns: usize, all: usize) -> Out {
+    some_of(
+        rt,
+        out.counted(rt, turns, b"turn").text(rt, b", "),
+        off,
+        all,
+    )
+    .text(rt, b" off")
 }
 
-fn settings(out: Out, drive: Drive) -> Out {
-    out.decimal(drive.speed * RPM, 3)
-        .text(b" rpm, cell ")
-        .decimal(drive.cell * NANOSECONDS, 3)
-        .text(b" ns")
+fn settings(rt: &impl Print, out: Out, drive: Drive) -> Out {
+    out.decimal(rt, drive.speed * RPM, 3)
+        .text(rt, b" rpm, cell ")
+        .decimal(rt, drive.cell * NANOSECONDS, 3)
+        .text(rt, b" ns")
 }
 
-fn some_of(out: Out, some: usize, all: usize) -> Out {
-    out.number(some).text(b" of ").counted(all, b"interval")
+fn some_of(rt: &impl Print, out: Out, some: usize, all: usize) -> Out {
+    out.number(rt, some)
+        .text(rt, b" of ")
+        .counted(rt, all, b"interval")
 }
 
-fn why_not(out: Out, verdict: Verdict, all: usize) -> Out {
+fn why_not(rt: &impl Print, out: Out, verdict: Verdict, all: usize) -> Out {
     match verdict {
-        Verdict::Refused(n) => in_words(out.text(b"refusal ").number(n), n),
+        Verdict::Refused(n) => in_words(rt, out.text(rt, b"refusal ").number(rt, n), n),
         Verdict::HighDensity(n) => {
-            some_of(out, n, all).text(b" one cell long, as of a high density disk")
+            some_of(rt, out, n, all).text(rt, b" one cell long, as of a high density disk")
         }
         Verdict::Unknown(n) => {
-            some_of(out, n, all).text(b" one cell long, beside longer ones: GCR, or noise")
+            some_of(rt, out, n, all).text(rt, b" one cell long, beside longer ones: GCR, or noise")
         }
-        Verdict::Gcr(n) => some_of(out, n, all).text(b" longer than four cells, as in GCR"),
+        Verdict::Gcr(n) => some_of(rt, out, n, all).text(rt, b" longer than four cells, as in GCR"),
         Verdict::Fm(n) => {
-            some_of(out.text(b"only "), n, all).text(b" three cells long: FM, or no data")
+            some_of(rt, out.text(rt, b"only "), n, all).text(
+                rt,
+                b" three cells long: FM, or no data",
+            )
         }
-        Verdict::Off(n) => some_of(out, n, all).text(b" more than a quarter of a cell off"),
-        Verdict::TurnOff(i) => out.text(b"more than an eighth off in turn ").number(i),
-        Verdict::Unsettled => out.text(b"the steps do not settle"),
+        Verdict::Off(n) => some_of(rt, out, n, all).text(rt, b" more than a quarter of a cell off"),
+        Verdict::TurnOff(i) => out
+            .text(rt, b"more than an eighth off in turn ")
+            .number(rt, i),
+        Verdict::Unsettled => out.text(rt, b"the steps do not settle"),
         Verdict::Fitted => out,
     }
 }
 
 // Of a refusal, which of the two where a handle is not live.
-fn in_words(out: Out, refusal: usize) -> Out {
+fn in_words(rt: &impl Print, out: Out, refusal: usize) -> Out {
     if refusal == Refusal::Stale.number() as usize {
-        return out.text(b" (stale handle)");
+        return out.text(rt, b" (stale handle)");
     }
     if refusal == Refusal::NeverIssued.number() as usize {
-        return out.text(b" (handle never issued)");
+        return out.text(rt, b" (handle never issued)");
     }
     out
 }
 
-pub(crate) fn by_cells(out: Out, counts: [usize; CELLS]) -> Out {
-    let mut told = out.text(b"  intervals of 1 to 8 cells:");
+pub(crate) fn by_cells(rt: &impl Print, out: Out, counts: [usize; CELLS]) -> Out {
+    let mut told = out.text(rt, b"  intervals of 1 to 8 cells:");
     for i in 0..CELLS {
-        told = told.text(b" ").number(counts[i]);
+        told = told.text(rt, b" ").number(rt, counts[i]);
     }
-    told.text(b"\n")
+    told.text(rt, b"\n")
 }
 
 // A line for each turn: its speed, the intervals that are off, whether it is a part, and whether its index time stands
 // apart.
 pub(crate) fn turns(
+    rt: &impl Print,
     out: Out,
     revolutions: usize,
     times: &Times,
@@ -153,28 +184,41 @@ pub(crate) fn turns(
     let mut told = out;
     for i in 0..revolutions {
         let intervals = flux::of_turn(i, ends, ticks);
-        told = turn(told, i + 1, times[i], intervals, seen, median);
+        told = turn(rt, told, i + 1, times[i], intervals, seen, median);
     }
     told
 }
 
-fn turn(out: Out, number: usize, time: u32, ticks: &[u32], seen: f64, median: u32) -> Out {
+fn turn(
+    rt: &impl Print,
+    out: Out,
+    number: usize,
+    time: u32,
+    ticks: &[u32],
+    seen: f64,
+    median: u32,
+) -> Out {
     let speed = RPM * TURN / time as f64;
     let named = out
-        .text(b"  turn ")
-        .number(number)
-        .text(b": ")
-        .decimal(speed, 3)
-        .text(b" rpm, ");
+        .text(rt, b"  turn ")
+        .number(rt, number)
+        .text(rt, b": ")
+        .decimal(rt, speed, 3)
+        .text(rt, b" rpm, ");
     let off = track::count_off(ticks, seen);
-    let told = a_part(some_of(named, off, ticks.len()).text(b" off"), time, ticks);
-    apart(told, time, median).text(b"\n")
+    let told = a_part(
+        rt,
+        some_of(rt, named, off, ticks.len()).text(rt, b" off"),
+        time,
+        ticks,
+    );
+    apart(rt, told, time, median).text(rt, b"\n")
 }
 
 // A turn of which more than 1/64 was not read is told: where the speed wavers, a part does not do.
-fn a_part(out: Out, time: u32, ticks: &[u32]) -> Out {
+fn a_part(rt: &impl Print, out: Out, time: u32, ticks: &[u32]) -> Out {
     if time_of(ticks) < (time - time / 64) as u64 {
-        return out.text(b", a part of the turn");
+        return out.text(rt, b", a part of the turn");
     }
     out
 }
@@ -191,22 +235,22 @@ fn wide(x: u32) -> u64 {
     x as u64
 }
 
-fn apart(out: Out, time: u32, median: u32) -> Out {
+fn apart(rt: &impl Print, out: Out, time: u32, median: u32) -> Out {
     if track::is_apart(time, median) {
-        return out.text(b", its index time apart from the others and left out");
+        return out.text(rt, b", its index time apart from the others and left out");
     }
     out
 }
 
 // A line for each step: where it was taken, the misfit there, and the edges that its passes visited.
-pub(crate) fn steps(out: Out, steps: Steps, verbose: bool) -> Out {
+pub(crate) fn steps(rt: &impl Print, out: Out, steps: Steps, verbose: bool) -> Out {
     let mut told = out;
     for i in 0..shown(steps.taken, verbose) {
         let drive = Drive {
             speed: steps.speed[i],
             cell: steps.cell[i],
         };
-        told = step(told, i + 1, steps.misfit[i], drive, steps.edges[i]);
+        told = step(rt, told, i + 1, steps.misfit[i], drive, steps.edges[i]);
     }
     told
 }
@@ -220,74 +264,87 @@ fn shown(taken: usize, verbose: bool) -> usize
     0
 }
 
-fn step(out: Out, number: usize, misfit: f64, drive: Drive, edges: u64) -> Out {
+fn step(rt: &impl Print, out: Out, number: usize, misfit: f64, drive: Drive, edges: u64) -> Out {
     let named = out
-        .text(b"  step ")
-        .number(number)
-        .text(b": misfit ")
-        .decimal(misfit, 9)
-        .text(b", speed ");
-    settings(named, drive)
-        .text(b", ")
-        .large(edges)
-        .text(b" edges\n")
+        .text(rt, b"  step ")
+        .number(rt, number)
+        .text(rt, b": misfit ")
+        .decimal(rt, misfit, 9)
+        .text(rt, b", speed ");
+    settings(rt, named, drive)
+        .text(rt, b", ")
+        .large(rt, edges)
+        .text(rt, b" edges\n")
 }
 
-pub(crate) fn fault(out: Out, name: &[u8], reading: Reading) -> Out {
+pub(crate) fn fault(rt: &impl Print, out: Out, name: &[u8], reading: Reading) -> Out {
     let fault = reading.fault;
-    fault_words(out.text(name).text(b": "), fault, reading.fault_line).text(b"\n")
+    fault_words(
+        rt,
+        out.text(rt, name).text(rt, b": "),
+        fault,
+        reading.fault_line,
+    )
+    .text(rt, b"\n")
 }
 
 // A fault of the file itself, or of one of its lines.
-fn fault_words(out: Out, fault: Fault, line: usize) -> Out {
+fn fault_words(rt: &impl Print, out: Out, fault: Fault, line: usize) -> Out {
     match fault {
-        Fault::Missing => out.text(b"no such file"),
-        Fault::Denied => out.text(b"may not be read"),
-        Fault::Folder => out.text(b"a folder"),
-        Fault::LongName => out.text(b"a name longer than any file's"),
-        Fault::Circle => out.text(b"a link that leads in a circle"),
-        Fault::Device => out.text(b"the device failed"),
-        Fault::Unreadable => out.text(b"cannot be read"),
-        Fault::Scp => out.text(b"not text: an SCP dump"),
-        Fault::Kryoflux => out.text(b"not text: a KryoFlux stream"),
-        Fault::Hfe => out.text(b"not text: an HFE image"),
-        Fault::Ipf => out.text(b"not text: an IPF image"),
-        Fault::Applesauce => out.text(b"not text: an Applesauce image"),
-        Fault::FluxEngine => out.text(b"not text: a FluxEngine capture"),
-        Fault::NotText => out.text(b"not text: a byte that no text has"),
-        Fault::Empty => out.text(b"the file is empty"),
-        _ => line_words(out.text(b"line ").number(line).text(b": "), fault),
+        Fault::Missing => out.text(rt, b"no such file"),
+        Fault::Denied => out.text(rt, b"may not be read"),
+        Fault::Folder => out.text(rt, b"a folder"),
+        Fault::LongName => out.text(rt, b"a name longer than any file's"),
+        Fault::Circle => out.text(rt, b"a link that leads in a circle"),
+        Fault::Device => out.text(rt, b"the device failed"),
+        Fault::Unreadable => out.text(rt, b"cannot be read"),
+        Fault::Scp => out.text(rt, b"not text: an SCP dump"),
+        Fault::Kryoflux => out.text(rt, b"not text: a KryoFlux stream"),
+        Fault::Hfe => out.text(rt, b"not text: an HFE image"),
+        Fault::Ipf => out.text(rt, b"not text: an IPF image"),
+        Fault::Applesauce => out.text(rt, b"not text: an Applesauce image"),
+        Fault::FluxEngine => out.text(rt, b"not text: a FluxEngine capture"),
+        Fault::NotText => out.text(rt, b"not text: a byte that no text has"),
+        Fault::Empty => out.text(rt, b"the file is empty"),
+        _ => line_words(
+            rt,
+            out.text(rt, b"line ").number(rt, line).text(rt, b": "),
+            fault,
+        ),
     }
 }
 
-fn line_words(out: Out, fault: Fault) -> Out {
+fn line_words(rt: &impl Print, out: Out, fault: Fault) -> Out {
     match fault {
-        Fault::ByteOrderMark => out.text(b"a byte order mark: save as plain text, without one"),
-        Fault::EmptyLine => out.text(b"an empty line"),
-        Fault::CarriageReturn => out.text(b"a carriage return: save with line feeds alone"),
-        Fault::Space => out.text(b"a space or a tab where none belongs"),
+        Fault::ByteOrderMark => out.text(rt, b"a byte order mark: save as plain text, without one"),
+        Fault::EmptyLine => out.text(rt, b"an empty line"),
+        Fault::CarriageReturn => out.text(rt, b"a carriage return: save with line feeds alone"),
+        Fault::Space => out.text(rt, b"a space or a tab where none belongs"),
         Fault::NoNumber => {
-            out.text(b"neither a whole number of ticks, 1 to 99999999, nor 'revolution N'")
+            out.text(
+                rt,
+                b"neither a whole number of ticks, 1 to 99999999, nor 'revolution N'",
+            )
         }
-        Fault::Early => out.text(b"an interval before the first 'revolution N'"),
-        Fault::NoInterval => out.text(b"a revolution with no interval"),
-        Fault::WrongSpeed => wrong_speed(out),
-        Fault::PastIndex => out.text(b"an interval that begins after the next index pulse"),
-        Fault::LongRevolution => limit(out, MOST_IN_REVOLUTION, b" intervals in a revolution"),
-        Fault::LongFile => limit(out, MOST_INTERVALS, b" intervals in a file"),
-        Fault::ManyRevolutions => limit(out, MOST_REVOLUTIONS, b" revolutions in a file"),
+        Fault::Early => out.text(rt, b"an interval before the first 'revolution N'"),
+        Fault::NoInterval => out.text(rt, b"a revolution with no interval"),
+        Fault::WrongSpeed => wrong_speed(rt, out),
+        Fault::PastIndex => out.text(rt, b"an interval that begins after the next index pulse"),
+        Fault::LongRevolution => limit(rt, out, MOST_IN_REVOLUTION, b" intervals in a revolution"),
+        Fault::LongFile => limit(rt, out, MOST_INTERVALS, b" intervals in a file"),
+        Fault::ManyRevolutions => limit(rt, out, MOST_REVOLUTIONS, b" revolutions in a file"),
         _ => out,
     }
 }
 
-fn wrong_speed(out: Out) -> Out {
-    out.text(b"not a 300 rpm drive, whose revolution takes ")
-        .number(SHORTEST_TURN as usize)
-        .text(b" to ")
-        .number(LONGEST_TURN as usize)
-        .text(b" ticks")
+fn wrong_speed(rt: &impl Print, out: Out) -> Out {
+    out.text(rt, b"not a 300 rpm drive, whose revolution takes ")
+        .number(rt, SHORTEST_TURN as usize)
+        .text(rt, b" to ")
+        .number(rt, LONGEST_TURN as usize)
+        .text(rt, b" ticks")
 }
 
-fn limit(out: Out, most: usize, what: &[u8]) -> Out {
-    out.text(b"more than ").number(most).text(what)
+fn limit(rt: &impl Print, out: Out, most: usize, what: &[u8]) -> Out {
+    out.text(rt, b"more than ").number(rt, most).text(rt, what)
 }

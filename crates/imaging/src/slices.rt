@@ -4,14 +4,14 @@ use dual::{Pass, Sliced};
 use tape::MOST_NODES;
 
 // How passes are taken: in one go, or in slices of so many nodes.
-#[derive(Drop)]
+#[derive(Clone, Copy)]
 pub enum Way {
     InOneGo,
     InSlices(usize),
 }
 
 // How passes are taken, how many slices there were so far, and how many nodes lay at most between two services.
-#[derive(Drop)]
+#[derive(Clone, Copy)]
 pub struct Passes {
     pub way: Way,
     pub slices: usize,
@@ -19,7 +19,7 @@ pub struct Passes {
 }
 
 // What the slices of a pass came to, and the nodes that are left of it; none once something is refused.
-#[derive(Drop)]
+#[derive(Clone, Copy)]
 struct Cut {
     turned: Turned,
     left: usize,

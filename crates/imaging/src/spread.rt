@@ -11,13 +11,13 @@ use crate::model::Drive;
 use crate::{fit, flux};
 
 // A standard error, or that a single time has none.
-#[derive(Drop)]
+#[derive(Clone, Copy)]
 pub enum Error {
     Known(f64),
     OfOne,
 }
 
-#[derive(Drop)]
+#[derive(Clone, Copy)]
 pub struct Spread {
     pub rms: f64,
     pub speed: Error,

@@ -4,7 +4,7 @@ ghost use Rattle.imaging.specs.Tally.{tallied, files};
 
 use crate::out::Out;
 
-#[derive(Drop)]
+#[derive(Clone, Copy)]
 pub struct Tally {
     pub fitted: usize,
     pub not: usize,
@@ -36,9 +36,9 @@ impl Tally {
 }
 
 // The last line. It is not written where a write before it failed.
-pub(crate) fn last_line(out: Out, tally: Tally) -> Out {
-    out.number(tally.fitted)
-        .text(b" fitted, ")
-        .number(tally.not)
-        .text(b" not\n")
+pub(crate) fn last_line(rt: &impl Print, out: Out, tally: Tally) -> Out {
+    out.number(rt, tally.fitted)
+        .text(rt, b" fitted, ")
+        .number(rt, tally.not)
+        .text(rt, b" not\n")
 }

@@ -14,7 +14,7 @@ pub const INDEX_NODES: usize = 2;
 pub const INTERVAL_NODES: usize = 5;
 
 // An index time that pulls, or none.
-#[derive(Drop)]
+#[derive(Clone, Copy)]
 pub enum Index {
     Pulls(u32),
     Nothing,
@@ -22,7 +22,7 @@ pub enum Index {
 
 // A term of a misfit: an index time in turns, beside the time of a turn as modelled; or the sum so far, a cell as this
 // drive reads it, and an interval.
-#[derive(Drop)]
+#[derive(Clone, Copy)]
 enum Term {
     Nothing,
     Index(Operand, f64),
@@ -30,7 +30,7 @@ enum Term {
 }
 
 // What turns came to, and the tape after them; or the first refusal, after which nothing is recorded.
-#[derive(Drop)]
+#[derive(Clone, Copy)]
 pub struct Turned {
     pub tape: Tape,
     pub misfit: f64,

@@ -9,7 +9,7 @@ use crate::{fit, flux, spread};
 
 // The first of these that holds, with the number that it rests on: document 01's refusal, how many intervals, or which
 // turn. Fitted where no other holds.
-#[derive(Drop)]
+#[derive(Clone, Copy)]
 pub enum Verdict {
     Refused(usize),
     HighDensity(usize),
@@ -27,7 +27,7 @@ pub const CELLS: usize = 8;
 
 // At what was reached: how long a cell is read, how many intervals have 1 to 8 cells, how many are off, how well it fits,
 // and the verdict.
-#[derive(Drop)]
+#[derive(Clone, Copy)]
 pub struct Judged {
     pub verdict: Verdict,
     pub seen: f64,

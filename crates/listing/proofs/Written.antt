@@ -13,17 +13,24 @@ use Rattle.tape.specs.Machine.{Machine}
 use Rattle.tape.specs.Walk.{indexes}
 use Rattle.tape.specs.Listing.{header, lines, listing}
 use Rattle.tape.specs.Answers.{refused, counted}
-use Rattle.tape.specs.Admission.{let_in}
+use Rattle.tape.specs.Admission.{lengths, admission, admitted, let_in}
 use Rattle.tape.specs.Steps.{step}
 use Rattle.tape.specs.declared.errors.Refusal.{Refusal}
 use Rattle.tape.specs.declared.errors.Refusal.TheVariants.{ListingTooLong}
+use Rattle.tape.specs.declared.admission.Admission.{Admission}
+use Rattle.tape.specs.declared.admission.Caller.{Caller}
 use Rattle.tape.specs.declared.admission.Caller.TheVariants as caller
+use Rattle.tape.specs.declared.admission.Lengths.{Lengths}
 use Rattle.tape.proofs.OneToOne.{not_nought}
 use Rattle.listing.specs.Outcome.{listed}
 use Rattle.text.specs.Inner.{Wrote}
 use Rattle.listing.specs.Inner.{shown}
 use Rattle.listing.proofs.Lines.{shown_so}
 use Rattle.text.proofs.Stores.{then}
+
+-- what the admission answers, told the lengths of the machine's arrays
+pub asked_of : (M : Machine floats) (k : Caller) (n : Lengths) (x : Admission) → x ≡ admitted (admission k n M.state) → n ≡ lengths M.lent → x ≡ admitted (let_in k M)
+asked_of M k n x e f = e ∙ ap (λ n. admitted (admission k n M.state)) f
 
 module _ (M : Machine floats) (lent : List ℕ) where
   pub turned : (r : Refusal) → let_in caller.Listing M ≡ some r → ((refused r, M), lent) ≡ listed M lent

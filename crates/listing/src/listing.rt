@@ -3,7 +3,7 @@ ghost use Rattle.std.specs.Prelude.{◌+◌, ◌-◌, ◌≤◌, ◌<◌, ◌≡
 ghost use Rattle.std.specs.Float.{binary64};
 ghost use Rattle.std.specs.Float.Ieee.{to_bits};
 ghost use Rattle.tape.specs.Numbers.{floats};
-ghost use Rattle.tape.specs.Machine.{Arrays, machine, lent_before, most_nodes};
+ghost use Rattle.tape.specs.Machine.{Arrays, machine, lent_arrays, most_nodes};
 ghost use Rattle.tape.specs.Walk.{indexes};
 ghost use Rattle.text.specs.Numerals.{hex, decimal};
 ghost use Rattle.text.specs.Inner.{Wrote};
@@ -16,7 +16,7 @@ use tape::{Admission, Caller, Lengths, Refusal, Tape};
 use text::{decimal_length, write_decimal, write_hex, write_text};
 
 // What a listing answers: how many bytes were written, or the refusal.
-#[derive(Drop)]
+#[derive(Clone, Copy)]
 pub enum Listed {
     Written(usize),
     Refused(Refusal),
@@ -33,8 +33,8 @@ pub fn list(
     partial: &[f64],
     out: &mut [u8],
 ) -> Listed
-    ensures { (outcome result (machine tape (lent_before value adjoint serial count child partial)), out.new)
-        ≡ listed (machine tape (lent_before value adjoint serial count child partial)) out.old }
+    ensures { (outcome result (machine tape (lent_arrays value.now adjoint.now serial.now count.now child.now partial.now)), out.new)
+        ≡ listed (machine tape (lent_arrays value.now adjoint.now serial.now count.now child.now partial.now)) out.old }
 {
     match tape.admit(
         Caller::Listing,

@@ -39,7 +39,7 @@ const MOST_DIGITS: usize = 5;
 const MOST_WORDS: usize = 6;
 
 // What a word says.
-#[derive(Drop)]
+#[derive(Clone, Copy)]
 pub struct Said {
     pub letter: u8,
     pub bits: u64,
@@ -56,7 +56,7 @@ const WRONG_WORD: Said = Said {
 };
 
 // The words after a line's name, and how many there are.
-#[derive(Drop)]
+#[derive(Clone, Copy)]
 struct Words {
     said: [Said; MOST_WORDS],
     count: usize,
@@ -68,7 +68,7 @@ const TOO_MANY: Words = Words {
 };
 
 // A call, of kind KINDS where the line is none. The Rust takes a stale one, which the port has to refuse.
-#[derive(Drop)]
+#[derive(Clone, Copy)]
 pub struct Call {
     pub kind: usize,
     pub stale: bool,

@@ -15,7 +15,7 @@ use tape::{Handle, Moved, Operand, Refusal, Tape};
 
 // What the port answered, the node that it recorded, the tape after the call, how many slices were taken and, where a
 // sequence has them, the digests of all values and adjoints on the tape.
-#[derive(Drop)]
+#[derive(Clone, Copy)]
 pub struct Heard {
     pub answer: Said,
     pub node: Handle,
@@ -27,7 +27,7 @@ pub struct Heard {
 
 // A call with its operands and what is supplied for them; a pass has the left one as its root, and is carried out in a
 // way, cut by the number of its line.
-#[derive(Drop)]
+#[derive(Clone, Copy)]
 pub struct Task {
     pub kind: usize,
     pub left: Operand,

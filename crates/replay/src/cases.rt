@@ -5,13 +5,19 @@ use crate::words::byte_at;
 use crate::{orders, roots, sequences, table};
 
 // Carries the case out, reports a difference or that it is no case, and counts it.
-pub(crate) fn replay(list: &[u8], subject: Subject, case: &[u8], before: Tally) -> Tally {
+pub(crate) fn replay(
+    rt: &impl Print,
+    list: &[u8],
+    subject: Subject,
+    case: &[u8],
+    before: Tally,
+) -> Tally {
     match subject {
-        Subject::Forward(order) => orders::replay(list, order, case, before.next_line()),
-        Subject::Table => table::replay(list, case, before.next_line()),
-        Subject::Sequences(way) => sequences::replay(list, way, case, before),
-        Subject::Stale(way) => sequences::replay(list, way, case, before),
-        Subject::Roots => roots::replay(list, case, before.next_line()),
+        Subject::Forward(order) => orders::replay(rt, list, order, case, before.next_line()),
+        Subject::Table => table::replay(rt, list, case, before.next_line()),
+        Subject::Sequences(way) => sequences::replay(rt, list, way, case, before),
+        Subject::Stale(way) => sequences::replay(rt, list, way, case, before),
+        Subject::Roots => roots::replay(rt, list, case, before.next_line()),
     }
 }
 

@@ -18,7 +18,7 @@ const HANDLES: usize = 16;
 const ISSUED_HANDLES: usize = 8;
 
 // The stale handle, and which operands of the call it is.
-#[derive(Drop)]
+#[derive(Clone, Copy)]
 struct Spot {
     stale: Handle,
     left: bool,
@@ -26,14 +26,14 @@ struct Spot {
 }
 
 // Digests of all that is lent for values and adjoints, so that what is written behind the last node is seen.
-#[derive(Drop)]
+#[derive(Clone, Copy)]
 struct Digests {
     values: u64,
     adjoints: u64,
 }
 
 // What a call answered, and whether it left the tape as it was.
-#[derive(Drop)]
+#[derive(Clone, Copy)]
 pub struct Made {
     pub answer: Said,
     pub same_state: bool,
@@ -42,7 +42,7 @@ pub struct Made {
 }
 
 // What came of a handle, with the number of the refusal that it has to get.
-#[derive(Drop)]
+#[derive(Clone, Copy)]
 pub struct Got {
     pub handle: Handle,
     pub wanted: u64,
@@ -51,6 +51,7 @@ pub struct Got {
 }
 
 pub(crate) fn replay(
+    rt: &impl Print,
     run: Run,
     list: &[u8],
     value: &mut [f64],
@@ -67,7 +68,7 @@ pub(crate) fn replay(
         run.tape, value, adjoint, serial, count, child, partial, run.last,
     );
     each_handle(
-        run, spot, list, value, adjoint, serial, count, child, partial,
+        rt, run, spot, list, value, adjoint, serial, count, child, partial,
     )
 }
 
@@ -119,6 +120,7 @@ fn handle_of(x: Operand) -> Handle {
 }
 
 fn each_handle(
+    rt: &impl Print,
     before: Run,
     spot: Spot,
     list: &[u8],
@@ -133,13 +135,14 @@ fn each_handle(
     let end = handles_of(before);
     for number in 1..end {
         run = one_handle(
-            run, spot, number, list, value, adjoint, serial, count, child, partial,
+            rt, run, spot, number, list, value, adjoint, serial, count, child, partial,
         );
     }
     run
 }
 
 fn one_handle(
+    rt: &impl Print,
     run: Run,
     spot: Spot,
     number: usize,
@@ -159,6 +162,7 @@ fn one_handle(
         run.tape, value, adjoint, serial, count, child, partial, task,
     );
     run.tried(
+        rt,
         list,
         Got {
             handle,

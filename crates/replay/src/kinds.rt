@@ -12,7 +12,7 @@ pub const TAPE: [u8; 299] =
     *b"leaf add sub mul div max min neg supplied_one supplied_two sqrt start_recording stop_recording set_mark reset_mark rewind_to_mark rewind_to_init backward backward_to_mark backward_mark_to_start propagate_to_mark propagate_mark_to_start reset_adjoints value adjoint end stale garbage past_the_length ";
 
 // Of forward numbers, of an order, of the tape, with its passes carried out in a way, or of square roots alone.
-#[derive(Drop)]
+#[derive(Clone, Copy)]
 pub enum Subject {
     Forward(usize),
     Table,

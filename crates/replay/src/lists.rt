@@ -4,12 +4,18 @@ ghost use Rattle.std.specs.Prelude.{◌≤◌, length};
 use crate::kinds::Subject;
 use crate::tally::Tally;
 use crate::{cases, report};
+use std::io::Read;
+use std::rt::Files;
+use std::{fs, io};
 
 // More bytes than any case has, so that one which is cut at so many is none.
 const LONGEST: usize = 2_097_152;
 
+// So much is read at a time.
+const PIECE: usize = 65_536;
+
 // How far the reading has come: what is counted, and how many bytes of a case stand unfinished.
-#[derive(Drop)]
+#[derive(Clone, Copy)]
 struct Progress {
     tally: Tally,
     pending: usize,
@@ -19,29 +25,40 @@ struct Progress {
 const ENDING: usize = 4;
 
 // Replays the list in the file `NAME.txt`.
-pub(crate) fn replay(path: &[u8], subject: Subject) {
-    if path.len() < ENDING {
+pub(crate) fn replay(rt: &(impl Files + Print), path: &str, subject: Subject) {
+    let bytes = path.as_bytes();
+    if bytes.len() < ENDING {
         return;
     }
-    let name = path.len() - ENDING;
-    replay_file(&path[0..name], subject, os::open_read(path));
+    let name = bytes.len() - ENDING;
+    replay_file(rt, &bytes[0..name], subject, fs::open(rt, path));
 }
 
-fn replay_file(list: &[u8], subject: Subject, file: i32) {
-    if file < 0 {
-        report::unreadable(list);
+fn replay_file<R: Files + Print>(
+    rt: &R,
+    list: &[u8],
+    subject: Subject,
+    opened: io::Result<R::File>,
+) {
+    let Ok(mut file) = opened else {
+        report::unreadable(rt, list);
         return;
-    }
+    };
     let mut case = [0u8; LONGEST];
-    let tally = replay_all(list, subject, file, &mut case);
-    libc::close(file);
-    report::summary(list, subject, tally);
+    let tally = replay_all(rt, list, subject, &mut file, &mut case);
+    report::summary(rt, list, subject, tally);
 }
 
 // A proved loop has to end, and nothing says that a file does. So the loop counts its turns down, from a number that no
 // run uses up.
-fn replay_all(list: &[u8], subject: Subject, file: i32, case: &mut [u8]) -> Tally {
-    let mut space = io::large_buffer();
+fn replay_all(
+    rt: &impl Print,
+    list: &[u8],
+    subject: Subject,
+    file: &mut impl Read,
+    case: &mut [u8],
+) -> Tally {
+    let mut space = [0u8; PIECE];
     let piece: &mut [u8] = &mut space;
     let mut progress = Progress {
         tally: Tally::empty(),
@@ -49,23 +66,22 @@ fn replay_all(list: &[u8], subject: Subject, file: i32, case: &mut [u8]) -> Tall
     };
     let mut turns = u64::MAX;
     while turns > 0 {
-        let got = libc::read(file, piece);
-        if got < 0 {
-            report::unreadable(list);
+        let Ok(count) = file.read(piece) else {
+            report::unreadable(rt, list);
+            break;
+        };
+        if count == 0 {
             break;
         }
-        if got == 0 {
-            break;
-        }
-        let count = io::count(got, piece);
-        progress = replay_piece(list, subject, &piece[..count], case, progress);
+        progress = replay_piece(rt, list, subject, &piece[..count], case, progress);
         turns -= 1;
     }
-    finished(list, progress)
+    finished(rt, list, progress)
 }
 
 // Replays the cases that end in the piece, and keeps the start of the one that does not.
 fn replay_piece(
+    rt: &impl Print,
     list: &[u8],
     subject: Subject,
     piece: &[u8],
@@ -79,7 +95,7 @@ fn replay_piece(
     let mut pending = before.pending;
     for i in 0..piece.len() {
         if cases::is_end(subject, piece[i], &*case, pending) {
-            tally = cases::replay(list, subject, &case[..pending], tally);
+            tally = cases::replay(rt, list, subject, &case[..pending], tally);
             pending = 0;
         } else {
             pending = put(case, pending, piece[i]);
@@ -100,10 +116,10 @@ fn put(case: &mut [u8], at: usize, byte: u8) -> usize
 }
 
 // A last case that is not ended was cut off.
-fn finished(list: &[u8], progress: Progress) -> Tally {
+fn finished(rt: &impl Print, list: &[u8], progress: Progress) -> Tally {
     let tally = progress.tally;
     if progress.pending == 0 {
         return tally;
     }
-    report::malformed(list, tally.next_line())
+    report::malformed(rt, list, tally.next_line())
 }

@@ -30,20 +30,20 @@ const SECOND: Handle = Handle {
 };
 
 // An operand as a case has it: the word of its value, and whether it stands on the tape.
-#[derive(Drop)]
+#[derive(Clone, Copy)]
 pub struct Given {
     pub on_tape: bool,
     pub bits: u64,
 }
 
-#[derive(Drop)]
+#[derive(Clone, Copy)]
 pub struct Edge {
     pub child: u16,
     pub partial: u64,
 }
 
 // The word of a node's value, how many edges it has, and these.
-#[derive(Drop)]
+#[derive(Clone, Copy)]
 pub struct Node {
     pub value: u64,
     pub count: u8,
@@ -51,7 +51,7 @@ pub struct Node {
     pub second: Edge,
 }
 
-#[derive(Drop)]
+#[derive(Clone, Copy)]
 pub enum Outcome {
     Node(Node),
     NoNode,

@@ -21,7 +21,7 @@ const SLOTS: usize = 2 * CAPACITY;
 const NODES: usize = 32_768;
 
 // How far a sequence has come.
-#[derive(Drop)]
+#[derive(Clone, Copy)]
 pub struct Run {
     pub way: Way,
     pub tape: Tape,
@@ -36,7 +36,7 @@ pub struct Run {
     tally: Tally,
 }
 
-pub(crate) fn replay(list: &[u8], way: Way, lines: &[u8], tally: Tally) -> Tally {
+pub(crate) fn replay(rt: &impl Print, list: &[u8], way: Way, lines: &[u8], tally: Tally) -> Tally {
     let mut value = [UNLIKELY; CAPACITY];
     let mut adjoint = [UNLIKELY; CAPACITY];
     let mut serial = [1u64; CAPACITY];
@@ -46,6 +46,7 @@ pub(crate) fn replay(list: &[u8], way: Way, lines: &[u8], tally: Tally) -> Tally
     // Where the port put the node with each serial, which a list counts from 1 as the port does.
     let mut places = [0u16; NODES];
     let run = each_line(
+        rt,
         Run::new(way, tally),
         list,
         lines,
@@ -58,6 +59,7 @@ pub(crate) fn replay(list: &[u8], way: Way, lines: &[u8], tally: Tally) -> Tally
         &mut partial,
     );
     let tried = garbage::replay(
+        rt,
         run,
         list,
         &mut value,
@@ -67,10 +69,11 @@ pub(crate) fn replay(list: &[u8], way: Way, lines: &[u8], tally: Tally) -> Tally
         &mut child,
         &mut partial,
     );
-    tried.finished(list)
+    tried.finished(rt, list)
 }
 
 fn each_line(
+    rt: &impl Print,
     before: Run,
     list: &[u8],
     lines: &[u8],
@@ -87,6 +90,7 @@ fn each_line(
     while from < lines.len() {
         let end = find(lines, from, b'\n');
         run = one_line(
+            rt,
             run,
             list,
             &lines[from..end],
@@ -104,6 +108,7 @@ fn each_line(
 }
 
 fn one_line(
+    rt: &impl Print,
     before: Run,
     list: &[u8],
     line: &[u8],
@@ -117,11 +122,11 @@ fn one_line(
 ) -> Run {
     let run = before.next_line();
     if !run.going {
-        return run.after_the_end(list);
+        return run.after_the_end(rt, list);
     }
     let call = calls::read(line);
     if call.kind >= STALE {
-        return run.malformed(list);
+        return run.malformed(rt, list);
     }
     let task = run.task(call, &*places);
     let heard = carry_out::carry_out(
@@ -129,7 +134,7 @@ fn one_line(
     );
     keep(places, heard.node);
     let digested = with_digests(heard, call.kind, &*value, &*adjoint);
-    run.judged(list, line, call, task, digested)
+    run.judged(rt, list, line, call, task, digested)
 }
 
 fn given(call: Call) -> Supplied {
@@ -207,8 +212,8 @@ impl Run {
         self
     }
 
-    fn malformed(mut self, list: &[u8]) -> Run {
-        self.tally = report::malformed(list, self.tally);
+    fn malformed(mut self, rt: &impl Print, list: &[u8]) -> Run {
+        self.tally = report::malformed(rt, list, self.tally);
         self.broken()
     }
 
@@ -219,24 +224,32 @@ impl Run {
     }
 
     // Nothing may follow the end of a sequence that agrees.
-    fn after_the_end(self, list: &[u8]) -> Run {
+    fn after_the_end(self, rt: &impl Print, list: &[u8]) -> Run {
         if self.broken {
             self
         } else {
-            self.malformed(list)
+            self.malformed(rt, list)
         }
     }
 
     // The empty line after the sequence has been read. The sequence has to have an end before it.
-    fn finished(self, list: &[u8]) -> Tally {
+    fn finished(self, rt: &impl Print, list: &[u8]) -> Tally {
         let mut run = self.next_line();
         if run.going {
-            run = run.malformed(list);
+            run = run.malformed(rt, list);
         }
         run.tally.next_run(run.broken)
     }
 
-    fn judged(self, list: &[u8], line: &[u8], call: Call, task: Task, heard: Heard) -> Run {
+    fn judged(
+        self,
+        rt: &impl Print,
+        list: &[u8],
+        line: &[u8],
+        call: Call,
+        task: Task,
+        heard: Heard,
+    ) -> Run {
         let mut run = self.after(task, heard);
         let kind = counted_as(call);
         let agrees = agrees(call, heard);
@@ -246,7 +259,7 @@ impl Run {
             run.going = (kind != END) & (kind != STALE);
             return run;
         }
-        report::heard(list, run.tally.lines, line, kind, heard);
+        report::heard(rt, list, run.tally.lines, line, kind, heard);
         run.broken()
     }
 
@@ -264,13 +277,13 @@ impl Run {
     }
 
     // A call with another handle in the place of the stale one.
-    pub(crate) fn tried(mut self, list: &[u8], got: Got) -> Run {
+    pub(crate) fn tried(mut self, rt: &impl Print, list: &[u8], got: Got) -> Run {
         let agrees = got.agrees();
         self.tally = self.tally.next_case(got.kind(), agrees, NOTHING);
         if agrees {
             return self;
         }
-        report::amiss(list, self.tally.lines, got);
+        report::amiss(rt, list, self.tally.lines, got);
         self.broken()
     }
 }

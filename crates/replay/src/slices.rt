@@ -8,7 +8,7 @@ use tape::{Handle, MOST_NODES, Operand, Refusal, Tape};
 
 // How the passes of a sequence are carried out. An unfinished one lacks its last slice, which has to be told; and so has
 // that in the place of garbage there are handles which were issued.
-#[derive(Drop)]
+#[derive(Clone, Copy)]
 pub enum Way {
     InOneGo,
     InSlices,
@@ -59,7 +59,7 @@ const OUT_OF_TURN: u64 = 12;
 
 // A pass that is under way: the edges visited so far, or what is amiss; the tape, the nodes that are left, and how many
 // slices were taken.
-#[derive(Drop)]
+#[derive(Clone, Copy)]
 pub struct Cut {
     pub answer: Said,
     pub tape: Tape,

@@ -13,17 +13,17 @@ const ZERO: u64 = 0;
 const ONE: u64 = 0x3ff0_0000_0000_0000;
 
 // The letters of a case's operands, n for one on the tape and p for a plain number. A single operand stands in both.
-#[derive(Drop)]
+#[derive(Clone, Copy)]
 struct Form {
     left: u8,
     right: u8,
 }
 
 // Records the line's operation, reports a difference or that the line is no case, and counts it.
-pub(crate) fn replay(list: &[u8], line: &[u8], tally: Tally) -> Tally {
+pub(crate) fn replay(rt: &impl Print, list: &[u8], line: &[u8], tally: Tally) -> Tally {
     let kind = kinds::tape_kind(line);
     if !tape_kinds::is_operation(kind) {
-        return report::malformed(list, tally);
+        return report::malformed(rt, list, tally);
     }
     let operands = tape_kinds::operands_of(kind);
     let given = operands + tape_kinds::supplied_of(kind);
@@ -34,20 +34,20 @@ pub(crate) fn replay(list: &[u8], line: &[u8], tally: Tally) -> Tally {
     };
     let from = letters + 1 + operands;
     if !is_form(form) {
-        return report::malformed(list, tally);
+        return report::malformed(rt, list, tally);
     }
     if from > line.len() {
-        return report::malformed(list, tally);
+        return report::malformed(rt, list, tally);
     }
     let partials = partial_count(line.len() - from, PLACES * (given + 1));
     let mut case: Case = [0; 48];
     if partials > MOST_EDGES {
-        return report::malformed(list, tally);
+        return report::malformed(rt, list, tally);
     }
     if !words::read_words(line, from, given + 1 + partials, &mut case) {
-        return report::malformed(list, tally);
+        return report::malformed(rt, list, tally);
     }
-    judge(list, tally, line, kind, form, partials, &case)
+    judge(rt, list, tally, line, kind, form, partials, &case)
 }
 
 fn is_form(form: Form) -> bool {
@@ -76,6 +76,7 @@ fn partial_count(length: usize, front: usize) -> usize
 }
 
 fn judge(
+    rt: &impl Print,
     list: &[u8],
     tally: Tally,
     line: &[u8],
@@ -111,7 +112,7 @@ fn judge(
     if agrees(got, wanted, aside) {
         return tally.next_case(kind, true, aside);
     }
-    report::outcome(list, tally.lines, line, got);
+    report::outcome(rt, list, tally.lines, line, got);
     tally.next_case(kind, false, aside)
 }
 

@@ -3,7 +3,7 @@
 use crate::tape_kinds::KINDS;
 
 // What of a case is not held to the Rust's answer: its value, its partials.
-#[derive(Drop)]
+#[derive(Clone, Copy)]
 pub struct Aside {
     pub value: bool,
     pub partials: bool,
@@ -16,7 +16,7 @@ pub const NOTHING: Aside = Aside {
 
 // Of one kind: how many cases there are, how many differ, and of how many the value and the partials are not held to
 // the Rust's.
-#[derive(Drop)]
+#[derive(Clone, Copy)]
 pub struct Count {
     pub cases: u64,
     pub differ: u64,
@@ -31,7 +31,7 @@ const NONE: Count = Count {
     tie: 0,
 };
 
-#[derive(Drop)]
+#[derive(Clone, Copy)]
 pub struct Tally {
     pub lines: u64,
     pub malformed: u64,

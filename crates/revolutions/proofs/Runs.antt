@@ -7,7 +7,7 @@ use mathlib.Core.List.{List, [], ◌∷◌, ◌++◌}
 use Rattle.tape.specs.Numbers.{Numbers}
 use Rattle.tape.specs.Machine.{Machine}
 use Rattle.tape.specs.Answers.{Answer}
-use Rattle.tape.specs.Calls.{Call, move, start, stop, set_mark, reset_mark, rewind_to_mark, rewind_to_init, operate, clear, Pass, pass, open_pass, slice, propagate_mark_to_start, value_of_lem, adjoint_of, is_live, list, carried}
+use Rattle.tape.specs.Calls.{Call, move, start, stop, set_mark, reset_mark, rewind_to_mark, rewind_to_init, operate, clear, Pass, pass, open_pass, slice, propagate_mark_to_start, value_of, adjoint_of, is_live, list, carried}
 use Rattle.tape.specs.Admission.{while_open}
 use Rattle.tape.specs.Refusals.{asked}
 use Rattle.tape.specs.Steps.{step, run}
@@ -49,7 +49,7 @@ steady clear = true
 steady (pass p) = true
 steady (open_pass p) = false
 steady (slice n) = false
-steady (value_of_lem x) = false
+steady (value_of x) = false
 steady (adjoint_of x) = false
 steady (is_live x) = false
 steady (list bytes) = false
@@ -75,7 +75,7 @@ needs_over clear M e = refl
 needs_over (pass p) M e = refl
 needs_over (open_pass p) M e = refl
 needs_over (slice n) M e = absurd (true≢false (sym e))
-needs_over (value_of_lem x) M e = refl
+needs_over (value_of x) M e = refl
 needs_over (adjoint_of x) M e = absurd (true≢false (sym e))
 needs_over (is_live x) M e = refl
 needs_over (list bytes) M e = absurd (true≢false (sym e))
@@ -93,7 +93,7 @@ carried_over clear M e o = o
 carried_over (pass p) M e o = o
 carried_over (open_pass p) M e o = absurd (true≢false (sym e))
 carried_over (slice n) M e o = absurd (true≢false (sym e))
-carried_over (value_of_lem x) M e o = o
+carried_over (value_of x) M e o = o
 carried_over (adjoint_of x) M e o = o
 carried_over (is_live x) M e o = o
 carried_over (list bytes) M e o = o
@@ -142,7 +142,7 @@ module _ {N : Numbers} where
   gone [] M t u = record { machine = refl; unrefused = tt }
   gone (open_pass p ∷ cs) M (t, ts) (first, rest) = its_pass p (all_in_one_go cs) M _ first (gone cs (step (open_pass p) M).1 ts rest)
   gone (slice n ∷ cs) M t (first, rest) = nothing (slice n) (all_in_one_go cs) M _ (sliced n M first) (gone cs (step (slice n) M).1 t rest)
-  gone (value_of_lem x ∷ cs) M t (first, rest) = nothing (value_of_lem x) (all_in_one_go cs) M _ (ap settled (only_adjoints.values x M)) (gone cs (step (value_of_lem x) M).1 t rest)
+  gone (value_of x ∷ cs) M t (first, rest) = nothing (value_of x) (all_in_one_go cs) M _ (ap settled (only_adjoints.values x M)) (gone cs (step (value_of x) M).1 t rest)
   gone (adjoint_of x ∷ cs) M t (first, rest) = nothing (adjoint_of x) (all_in_one_go cs) M _ (ap settled (only_adjoints.adjoints x M)) (gone cs (step (adjoint_of x) M).1 t rest)
   gone (is_live x ∷ cs) M t (first, rest) = nothing (is_live x) (all_in_one_go cs) M _ (ap settled (only_adjoints.liveness x M)) (gone cs (step (is_live x) M).1 t rest)
   gone (list bytes ∷ cs) M t (first, rest) = nothing (list bytes) (all_in_one_go cs) M _ (ap settled (only_adjoints.listings bytes M)) (gone cs (step (list bytes) M).1 t rest)
@@ -192,7 +192,7 @@ module _ {N : Numbers} (ds : List (Call N)) (t : AllSteady ds) where
   from_start [] M e u over = absurd (true≢false (ap begins_steady e))
   from_start (move start ∷ cs) M e u over = started cs M (ap behind_first e) u over
   from_start (slice n ∷ cs) M e (first, rest) over = slice_before n cs M first (from_start cs (step (slice n) M).1 e rest over)
-  from_start (value_of_lem x ∷ cs) M e (first, rest) over = read_before (value_of_lem x) cs M (only_adjoints.values x M) (from_start cs (step (value_of_lem x) M).1 e rest over)
+  from_start (value_of x ∷ cs) M e (first, rest) over = read_before (value_of x) cs M (only_adjoints.values x M) (from_start cs (step (value_of x) M).1 e rest over)
   from_start (adjoint_of x ∷ cs) M e (first, rest) over = read_before (adjoint_of x) cs M (only_adjoints.adjoints x M) (from_start cs (step (adjoint_of x) M).1 e rest over)
   from_start (is_live x ∷ cs) M e (first, rest) over = read_before (is_live x) cs M (only_adjoints.liveness x M) (from_start cs (step (is_live x) M).1 e rest over)
   from_start (list bytes ∷ cs) M e (first, rest) over = read_before (list bytes) cs M (only_adjoints.listings bytes M) (from_start cs (step (list bytes) M).1 e rest over)

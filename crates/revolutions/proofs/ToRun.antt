@@ -102,7 +102,7 @@ module _ {N : Numbers} {A : Arrays N} {m first k j : ℕ} {L : Machine N} {t : T
   operates d p room spared =
       passes _ L
       (rw
-      (lent_fits, turn caller.Recording refl, p.operation, both_live (one_sided d.operation) d.left d.right p.left p.right, s.active, ne_eqb L.state.length (capacity L.lent) (λ e. omega arith), s.active, ne_eqb L.state.next last_serial (λ e. spared (omega arith))))
+      (lent_fits, turn caller.Recording refl, p.operation, both_live (one_sided d.operation) d.left d.right p.left p.right, s.active, ne_eqb L.state.length (capacity L.lent) (λ e. omega arith), ne_eqb L.state.next last_serial (λ e. spared (omega arith))))
 
 -- ---- operations one after another, and revolutions
 

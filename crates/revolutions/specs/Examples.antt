@@ -9,7 +9,7 @@ use Rattle.tape.specs.Numbers.{floats}
 use Rattle.tape.specs.Machine.{Machine, machine, most_nodes, state}
 use Rattle.tape.specs.Operations.{LEAF, ADD, MULTIPLY, SUPPLIED_ONE}
 use Rattle.tape.specs.Handles.{Operand, plain, node}
-use Rattle.tape.specs.Calls.{Call, open_pass, slice, backward_to_mark, propagate_mark_to_start, adjoint_of, value_of_lem, list}
+use Rattle.tape.specs.Calls.{Call, open_pass, slice, backward_to_mark, propagate_mark_to_start, adjoint_of, value_of, list}
 use Rattle.tape.specs.Steps.{run}
 use Rattle.tape.specs.Kept.{fresh}
 use Rattle.tape.specs.Passes.{Unrefused}
@@ -57,7 +57,7 @@ three =
 -- with reads between: x * x's adjoint after the first revolution, and at the end its value and a listing
 abbrev pub three_calls : List (Call floats)
 three_calls =
-    take 11 (calls three) ++ (adjoint_of (node_at 1) ∷ drop 11 (calls three)) ++ (value_of_lem (node_at 1) ∷ list 1000 ∷ [])
+    take 11 (calls three) ++ (adjoint_of (node_at 1) ∷ drop 11 (calls three)) ++ (value_of (node_at 1) ∷ list 1000 ∷ [])
 
 -- six nodes' room, all sevens
 abbrev pub before : Machine floats

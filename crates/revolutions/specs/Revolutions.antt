@@ -7,7 +7,7 @@ use Rattle.tape.specs.Machine.{Machine}
 use Rattle.tape.specs.Handles.{Operand, plain, node}
 use Rattle.tape.specs.Operations.{Given, apply, one_sided}
 use Rattle.tape.specs.Walk.{Edge, walk}
-use Rattle.tape.specs.Calls.{Call, move, start, set_mark, rewind_to_mark, operate, clear, pass, open_pass, slice, backward_to_mark, propagate_mark_to_start, value_of_lem, adjoint_of, is_live, list}
+use Rattle.tape.specs.Calls.{Call, move, start, set_mark, rewind_to_mark, operate, clear, pass, open_pass, slice, backward_to_mark, propagate_mark_to_start, value_of, adjoint_of, is_live, list}
 use Rattle.tape.specs.Steps.{run}
 use Rattle.tape.specs.Kept.{after}
 use Rattle.tape.specs.Passes.{Unrefused}
@@ -54,7 +54,7 @@ calls s =
 abbrev pub in_one_go : {N : Numbers} → Call N → List (Call N)
 in_one_go (open_pass p) = pass p ∷ []
 in_one_go (slice n) = []
-in_one_go (value_of_lem x) = []
+in_one_go (value_of x) = []
 in_one_go (adjoint_of x) = []
 in_one_go (is_live x) = []
 in_one_go (list bytes) = []

@@ -1,5 +1,7 @@
 // The square root of a double as IEEE 754 has it, worked out with whole numbers: no function of the host is asked, so
 // that every machine has the same.
+#![tactic(auto)]
+
 ghost use Rattle.std.specs.Prelude.{◌≡◌, ◌+◌, ◌*◌, ◌^◌, ◌≤◌, ◌<◌};
 ghost use Rattle.std.specs.Float.{binary64};
 ghost use Rattle.std.specs.Float.Ieee.{of_bits};
@@ -52,7 +54,7 @@ fn root_pattern(b: u64) -> u64
 }
 
 // A number m * 2^e, with 53 digits in m.
-#[derive(Drop)]
+#[derive(Clone, Copy)]
 struct Scaled {
     m: u64,
     e: u64,

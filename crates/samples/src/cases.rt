@@ -2,15 +2,18 @@
 ghost use Rattle.std.specs.Prelude.{◌≤◌, length};
 
 use crate::answer::is_refused;
-use crate::files::{Case, LONGEST, Outcome, read_case, read_outcome};
+use crate::files::{Case, LONGEST, Outcome, open, read_case, read_outcome};
 use crate::lent::MOST_LISTING;
 use crate::{lent, report};
+use std::io;
+use std::io::Read;
+use std::rt::Files;
 
 // No file has so many.
 const MOST_CASES: u64 = 1_000_000;
 
 // What is counted of a file. A count stops at its largest number, which no file reaches.
-#[derive(Drop)]
+#[derive(Clone, Copy)]
 pub struct Tally {
     pub cases: u64,
     pub answered: u64,
@@ -26,22 +29,32 @@ const EMPTY: Tally = Tally {
 };
 
 // Runs the cases of a file, and counts those whose answers differ from the ones in the other.
-pub(crate) fn compare(list: &[u8], cases: &[u8], answers: &[u8]) {
-    let cases = os::open_read(cases);
-    let answers = os::open_read(answers);
-    if (cases < 0) | (answers < 0) {
-        report::unreadable(list);
-        return;
-    }
+pub(crate) fn compare(
+    rt: &(impl Files + Print),
+    list: &[u8],
+    cases: &[u8],
+    answers: &[u8],
+) -> io::Result<()> {
+    let Ok(mut cases) = open(rt, cases) else {
+        return report::unreadable(rt, list);
+    };
+    let Ok(mut answers) = open(rt, answers) else {
+        return report::unreadable(rt, list);
+    };
     let mut text = [0u8; LONGEST];
     let mut lent = [0u8; MOST_LISTING];
-    let tally = compare_all(list, cases, answers, &mut text, &mut lent);
-    libc::close(cases);
-    libc::close(answers);
-    report::summary(list, tally);
+    let tally = compare_all(rt, list, &mut cases, &mut answers, &mut text, &mut lent)?;
+    report::summary(rt, list, tally)
 }
 
-fn compare_all(list: &[u8], cases: i32, answers: i32, text: &mut [u8], lent: &mut [u8]) -> Tally
+fn compare_all(
+    rt: &impl Print,
+    list: &[u8],
+    cases: &mut impl Read,
+    answers: &mut impl Read,
+    text: &mut [u8],
+    lent: &mut [u8],
+) -> io::Result<Tally>
     requires { 52168 ≤ length lent.old }
 {
     let mut tally = EMPTY;
@@ -51,9 +64,9 @@ fn compare_all(list: &[u8], cases: i32, answers: i32, text: &mut [u8], lent: &mu
             break;
         }
         let got = run_case(case, text, lent);
-        tally = judged(list, number, got, read_outcome(answers), tally);
+        tally = judged(rt, list, number, got, read_outcome(answers), tally)?;
     }
-    tally
+    Ok(tally)
 }
 
 fn run_case(case: Case, text: &[u8], lent: &mut [u8]) -> Outcome
@@ -66,18 +79,25 @@ fn run_case(case: Case, text: &[u8], lent: &mut [u8]) -> Outcome
     Outcome { number, digest }
 }
 
-fn judged(list: &[u8], number: u64, got: Outcome, wanted: Outcome, before: Tally) -> Tally {
+fn judged(
+    rt: &impl Print,
+    list: &[u8],
+    number: u64,
+    got: Outcome,
+    wanted: Outcome,
+    before: Tally,
+) -> io::Result<Tally> {
     let agrees = (got.number == wanted.number) & (got.digest == wanted.digest);
     if !agrees {
-        report::difference(list, number, got, wanted, before.differ);
+        report::difference(rt, list, number, got, wanted, before.differ)?;
     }
     let refused = is_refused(got.number);
-    Tally {
+    Ok(Tally {
         cases: raised(before.cases, true),
         answered: raised(before.answered, !refused),
         refused: raised(before.refused, refused),
         differ: raised(before.differ, !agrees),
-    }
+    })
 }
 
 fn raised(count: u64, by_one: bool) -> u64 {

@@ -1,11 +1,15 @@
 // Cases and their answers, a file of each, as host/damage writes them.
-ghost use Rattle.std.specs.Prelude.{◌≤◌};
+ghost use Rattle.std.specs.Prelude.{◌≤◌, length, IfOk};
 
 use crate::lent::MOST_LISTING;
+use std::fs::File;
+use std::io::{ErrorKind, Read};
+use std::rt::Files;
+use std::{io, str};
 use text::{Parsed, read_digits, read_hex};
 
 // How many bytes the session of a case has, and how many are lent for its listing.
-#[derive(Drop)]
+#[derive(Clone, Copy)]
 pub struct Case {
     pub is_there: bool,
     pub length: usize,
@@ -20,7 +24,7 @@ const NO_CASE: Case = Case {
 };
 
 // A number that a session answers, and the digest of all bytes that are lent to it.
-#[derive(Drop)]
+#[derive(Clone, Copy)]
 pub struct Outcome {
     pub number: u64,
     pub digest: u64,
@@ -37,9 +41,32 @@ const MOST_DIGITS: usize = 10;
 // No session answers it.
 const NO_NUMBER: u64 = u64::MAX;
 
+// Opens a file to be read. A name that is no text is no file's.
+pub(crate) fn open<R: Files>(rt: &R, path: &[u8]) -> io::Result<R::File> {
+    let Ok(path) = str::from_utf8(path) else {
+        return Err(io::Error::from(ErrorKind::InvalidInput));
+    };
+    File::open(rt, path)
+}
+
+// Reads until the bytes are full or the file ends, and answers how many were read.
+pub(crate) fn read_full(file: &mut impl Read, bytes: &mut [u8]) -> io::Result<usize>
+    ensures { IfOk result (λ n. n ≤ length bytes.new) }
+{
+    let mut done = 0;
+    while done < bytes.len() {
+        let read = file.read(&mut bytes[done..])?;
+        if read == 0 {
+            break;
+        }
+        done += read;
+    }
+    Ok(done)
+}
+
 // Reads a case, and its session into the text.
-pub(crate) fn read_case(file: i32, text: &mut [u8]) -> Case
-    ensures* { do ⌜ (result.length ≤ (← (⟦text.len()⟧).entry)) × (result.room ≤ 52168) ⌝ }
+pub(crate) fn read_case(file: &mut impl Read, text: &mut [u8]) -> Case
+    ensures { (result.length ≤ length text.old) × (result.room ≤ 52168) }
 {
     let mut line = [0u8; MOST_LINE];
     let count = read_line(file, &mut line);
@@ -53,7 +80,7 @@ pub(crate) fn read_case(file: i32, text: &mut [u8]) -> Case
     case
 }
 
-pub(crate) fn read_outcome(file: i32) -> Outcome {
+pub(crate) fn read_outcome(file: &mut impl Read) -> Outcome {
     let mut line = [0u8; MOST_LINE];
     let count = read_line(file, &mut line);
     outcome_of(&line[0..count])
@@ -100,10 +127,10 @@ fn number_or_none(parsed: Parsed) -> u64 {
 }
 
 // Whether so many bytes could be read, with a line feed behind them.
-fn is_read(file: i32, length: usize, text: &mut [u8]) -> bool
-    requires* { do ⌜ length ≤ (← ⟦text.len()⟧) ⌝ }
+fn is_read(file: &mut impl Read, count: usize, text: &mut [u8]) -> bool
+    requires { count ≤ length text.old }
 {
-    if io::read_full(file, &mut text[0..length]) < length {
+    if file.read_exact(&mut text[0..count]).is_err() {
         return false;
     }
     is_feed(next_byte(file))
@@ -117,8 +144,8 @@ fn is_feed(next: Next) -> bool {
 }
 
 // Reads a line up to its line feed, or to as many bytes as there is room for, and answers how many bytes it has.
-fn read_line(file: i32, line: &mut [u8]) -> usize
-    ensures* { do ⌜ result ≤ (← (⟦line.len()⟧).entry) ⌝ }
+fn read_line(file: &mut impl Read, line: &mut [u8]) -> usize
+    ensures { result ≤ length line.old }
 {
     for i in 0..line.len() {
         let next = next_byte(file);
@@ -134,15 +161,15 @@ fn read_line(file: i32, line: &mut [u8]) -> usize
 }
 
 // What a file has next.
-#[derive(Drop)]
+#[derive(Clone, Copy)]
 enum Next {
     Byte(u8),
     End,
 }
 
-fn next_byte(file: i32) -> Next {
+fn next_byte(file: &mut impl Read) -> Next {
     let mut byte = [0u8; 1];
-    if io::read_full(file, &mut byte) == 0 {
+    if file.read_exact(&mut byte).is_err() {
         return Next::End;
     }
     Next::Byte(byte[0])
@@ -150,8 +177,8 @@ fn next_byte(file: i32) -> Next {
 
 // The first index from `from` on at which the byte stands, or the line's length.
 pub(crate) fn find(line: &[u8], from: usize, byte: u8) -> usize
-    requires* { do ⌜ from ≤ (← ⟦line.len()⟧) ⌝ }
-    ensures* { do ⌜ (from ≤ result) × (result ≤ (← (⟦line.len()⟧).entry)) ⌝ }
+    requires { from ≤ length line.now }
+    ensures { (from ≤ result) × (result ≤ length line.now) }
 {
     for at in from..line.len() {
         if line[at] == byte {
@@ -163,7 +190,7 @@ pub(crate) fn find(line: &[u8], from: usize, byte: u8) -> usize
 
 // The index behind this one, or the line's length.
 fn past(line: &[u8], at: usize) -> usize
-    ensures* { do ⌜ result ≤ (← (⟦line.len()⟧).entry) ⌝ }
+    ensures { result ≤ length line.now }
 {
     if at < line.len() { at + 1 } else { line.len() }
 }

@@ -3,9 +3,7 @@ use crate::answer::{is_refused, line_of, listed, refusal_of};
 use crate::cases::Tally;
 use crate::files::Outcome;
 use crate::lent;
-use libc::STDOUT_FILENO;
-
-const DIGITS: usize = 16;
+use std::io;
 
 // A listing of so many bytes is shown whole.
 const MOST_SHOWN: usize = 400;
@@ -13,64 +11,65 @@ const MOST_SHOWN: usize = 400;
 // So many of the cases that differ are shown.
 const MOST_DIFFERENCES: u64 = 20;
 
-pub(crate) fn text(bytes: &[u8]) {
-    io::write_all(STDOUT_FILENO, bytes);
+pub(crate) fn text(rt: &impl Print, bytes: &[u8]) -> io::Result<()> {
+    rt.write_all(bytes)
 }
 
-pub(crate) fn unreadable(name: &[u8]) {
-    text(name);
-    text(b": cannot be read\n");
+pub(crate) fn unreadable(rt: &impl Print, name: &[u8]) -> io::Result<()> {
+    text(rt, name)?;
+    text(rt, b": cannot be read\n")
 }
 
 // What the session of this name answered, whether the bytes that are not the listing's stayed, and the listing.
-pub(crate) fn answer(name: &[u8], number: u64, lent: &[u8]) {
+pub(crate) fn answer(rt: &impl Print, name: &[u8], number: u64, lent: &[u8]) -> io::Result<()> {
     let end = listed(number, lent);
-    text(name);
-    told(number, lent.len() - end);
-    stayed(lent::is_filled(&lent[end..]));
-    show(&lent[0..end]);
+    text(rt, name)?;
+    told(rt, number, lent.len() - end)?;
+    stayed(rt, lent::is_filled(&lent[end..]))?;
+    show(rt, &lent[0..end])
 }
 
-fn told(number: u64, rest: usize) {
+fn told(rt: &impl Print, number: u64, rest: usize) -> io::Result<()> {
     if is_refused(number) {
-        refused(refusal_of(number), line_of(number));
-        count(b", ", rest as u64);
-        text(b" bytes");
+        refused(rt, refusal_of(number), line_of(number))?;
+        count(rt, b", ", rest as u64)?;
+        text(rt, b" bytes")
     } else {
-        count(b": ", number);
-        count(b" bytes, ", rest as u64);
-        text(b" behind them");
+        count(rt, b": ", number)?;
+        count(rt, b" bytes, ", rest as u64)?;
+        text(rt, b" behind them")
     }
 }
 
-fn refused(refusal: u64, line: u64) {
-    count(b": refused ", refusal);
-    in_words(refusal);
-    count(b" at line ", line);
+fn refused(rt: &impl Print, refusal: u64, line: u64) -> io::Result<()> {
+    count(rt, b": refused ", refusal)?;
+    in_words(rt, refusal)?;
+    count(rt, b" at line ", line)
 }
 
-fn in_words(refusal: u64) {
+fn in_words(rt: &impl Print, refusal: u64) -> io::Result<()> {
     match refusal {
-        STALE => text(b" (no such node)"),
-        FULL => text(b" (tape full)"),
-        TOO_LONG => text(b" (listing too long)"),
-        MALFORMED => text(b" (malformed)"),
-        _ => {}
+        STALE => text(rt, b" (no such node)"),
+        FULL => text(rt, b" (tape full)"),
+        TOO_LONG => text(rt, b" (listing too long)"),
+        MALFORMED => text(rt, b" (malformed)"),
+        _ => Ok(()),
     }
 }
 
-fn stayed(untouched: bool) {
+fn stayed(rt: &impl Print, untouched: bool) -> io::Result<()> {
     if untouched {
-        text(b" untouched\n");
+        text(rt, b" untouched\n")
     } else {
-        text(b" changed\n");
+        text(rt, b" changed\n")
     }
 }
 
-fn show(listing: &[u8]) {
+fn show(rt: &impl Print, listing: &[u8]) -> io::Result<()> {
     if listing.len() <= MOST_SHOWN {
-        text(listing);
+        text(rt, listing)?;
     }
+    Ok(())
 }
 
 const STALE: u64 = 3;
@@ -82,33 +81,40 @@ const TOO_LONG: u64 = 8;
 const MALFORMED: u64 = 9;
 
 // One of the first cases that differ, with what it answered and what it has to answer.
-pub(crate) fn difference(list: &[u8], at: u64, got: Outcome, wanted: Outcome, before: u64) {
+pub(crate) fn difference(
+    rt: &impl Print,
+    list: &[u8],
+    at: u64,
+    got: Outcome,
+    wanted: Outcome,
+    before: u64,
+) -> io::Result<()> {
     if before >= MOST_DIFFERENCES {
-        return;
+        return Ok(());
     }
-    text(list);
-    count(b": case ", at);
-    outcome(b": got ", got);
-    outcome(b", wanted ", wanted);
-    text(b"\n");
+    text(rt, list)?;
+    count(rt, b": case ", at)?;
+    outcome(rt, b": got ", got)?;
+    outcome(rt, b", wanted ", wanted)?;
+    text(rt, b"\n")
 }
 
-fn outcome(name: &[u8], outcome: Outcome) {
-    count(name, outcome.number);
-    text(b" ");
-    io::print_hex(STDOUT_FILENO, outcome.digest, DIGITS);
+fn outcome(rt: &impl Print, name: &[u8], outcome: Outcome) -> io::Result<()> {
+    count(rt, name, outcome.number)?;
+    text(rt, b" ")?;
+    print!(rt; "{:016x}", outcome.digest)
 }
 
-pub(crate) fn summary(list: &[u8], tally: Tally) {
-    text(list);
-    count(b": ", tally.cases);
-    count(b" cases, ", tally.answered);
-    count(b" answered, ", tally.refused);
-    count(b" refused, ", tally.differ);
-    text(b" differ\n");
+pub(crate) fn summary(rt: &impl Print, list: &[u8], tally: Tally) -> io::Result<()> {
+    text(rt, list)?;
+    count(rt, b": ", tally.cases)?;
+    count(rt, b" cases, ", tally.answered)?;
+    count(rt, b" answered, ", tally.refused)?;
+    count(rt, b" refused, ", tally.differ)?;
+    text(rt, b" differ\n")
 }
 
-fn count(name: &[u8], number: u64) {
-    text(name);
-    io::print_decimal(STDOUT_FILENO, number);
+fn count(rt: &impl Print, name: &[u8], number: u64) -> io::Result<()> {
+    text(rt, name)?;
+    print!(rt; "{number}")
 }

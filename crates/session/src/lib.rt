@@ -1,11 +1,13 @@
 // Session files: a session as text is run on a tape of 1,024 nodes, and the tape is listed.
+#![tactic(auto)]
+
 mod lines;
 mod reading;
 mod running;
 
 ghost use Rattle.std.specs.Prelude.{◌≤◌, ◌<◌, [], ◌∷◌, ◌≡◌, length};
 ghost use Rattle.tape.specs.Numbers.{floats};
-ghost use Rattle.tape.specs.Machine.{Arrays, machine, lent_before};
+ghost use Rattle.tape.specs.Machine.{Arrays, machine, lent_arrays};
 ghost use Rattle.tape.specs.Answers.{outcome};
 ghost use Rattle.tape.specs.Calls.{move, start};
 ghost use Rattle.tape.specs.Kept.{fresh, after};
@@ -22,8 +24,7 @@ use tape::{MOST_EDGES, Moved, Refusal, Tape};
 // session of over 65,536 bytes; 3 for an index not below the length; 5 past 1,024 nodes; and with line 0, 8 where the
 // listing does not fit. In the promise R is what reads a line: the inverse of the lines' texts, of which there is one
 // and no other (`OneReader` of specs/Lines.antt).
-#[unsafe(no_mangle)]
-pub extern "C" fn ingthabor_session(session: &[u8], listing: &mut [u8]) -> u32
+pub fn ingthabor_session(session: &[u8], listing: &mut [u8]) -> u32
     ensures { (R : Reader) → (result, listing.new) ≡ answered R session.now listing.old }
 {
     if MOST_SESSION < session.len() {
@@ -66,7 +67,7 @@ fn run_and_list(
 ) -> u32
     requires { length session.now ≤ most_session }
     ensures { (result, listing.new)
-        ≡ reported (run_lines reading 1 (lines session.now) (after (move start ∷ []) (fresh (lent_before value adjoint serial count child partial)))) listing.old }
+        ≡ reported (run_lines reading 1 (lines session.now) (after (move start ∷ []) (fresh (lent_arrays value.old adjoint.old serial.old count.old child.old partial.old)))) listing.old }
 {
     let tape = begun(Tape::new().start_recording());
     match run_lines(session, tape, value, adjoint, serial, count, child, partial) {
@@ -100,7 +101,7 @@ fn list(
     listing: &mut [u8],
 ) -> u32
     ensures { (result, listing.new)
-        ≡ reported (ended (machine tape (lent_before value adjoint serial count child partial))) listing.old }
+        ≡ reported (ended (machine tape (lent_arrays value.now adjoint.now serial.now count.now child.now partial.now))) listing.old }
 {
     match listing::listing::list(tape, value, adjoint, serial, count, child, partial, listing) {
         Listed::Written(bytes) => bytes as u32,

@@ -1,6 +1,6 @@
 // The lines of a session file, read and run in turn.
 ghost use Rattle.std.specs.Prelude.{◌+◌, ◌≤◌, ◌≡◌, length, drop};
-ghost use Rattle.tape.specs.Machine.{machine, lent_before, lent_after};
+ghost use Rattle.tape.specs.Machine.{machine, lent_arrays};
 ghost use Rattle.session.specs.Session.{lines, run_lines, most_session};
 ghost use Rattle.session.specs.Inner.{reading, line_length, came_to, SmallLine};
 
@@ -9,7 +9,7 @@ use crate::running::run_line;
 use tape::Tape;
 
 // What the lines came to: the state after the last, or the number of the first refusal and its line.
-#[derive(Drop)]
+#[derive(Clone, Copy)]
 pub(crate) enum Outcome {
     Ended(Tape),
     Stopped(u8, u32),
@@ -26,8 +26,8 @@ pub(crate) fn run_lines(
     partial: &mut [f64],
 ) -> Outcome
     requires { length session.now ≤ most_session }
-    ensures { (came_to result (lent_after value adjoint serial count child partial)
-        ≡ run_lines reading 1 (lines session.now) (machine tape (lent_before value adjoint serial count child partial)))
+    ensures { (came_to result (lent_arrays value.new adjoint.new serial.new count.new child.new partial.new)
+        ≡ run_lines reading 1 (lines session.now) (machine tape (lent_arrays value.old adjoint.old serial.old count.old child.old partial.old)))
         × SmallLine result }
 {
     let mut state = tape;

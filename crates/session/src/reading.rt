@@ -5,21 +5,21 @@ ghost use Rattle.session.specs.Inner.{find, begins, is, node_in, number_in, sour
 use text::{Parsed, read_decimal, read_hex};
 
 // An operand as it is written: the node of an index, or the number of a pattern.
-#[derive(Drop)]
+#[derive(Clone, Copy)]
 pub(crate) enum Source {
     Node(usize),
     Number(u64),
 }
 
 // What stands where an operand should.
-#[derive(Drop)]
+#[derive(Clone, Copy)]
 pub(crate) enum Sourced {
     Source(Source),
     Malformed,
 }
 
 // What a line says, under the names that it has in the file.
-#[derive(Drop)]
+#[derive(Clone, Copy)]
 pub(crate) enum Line {
     Leaf(u64),
     // Operations 1 to 6.

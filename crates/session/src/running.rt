@@ -1,7 +1,7 @@
 // One line of a session file, run: the call that it names is made on the tape.
 ghost use Rattle.std.specs.Prelude.{◌≡◌};
 ghost use Rattle.tape.specs.Numbers.{floats};
-ghost use Rattle.tape.specs.Machine.{Arrays, machine, lent_before, lent_after};
+ghost use Rattle.tape.specs.Machine.{Arrays, machine, lent_arrays};
 ghost use Rattle.tape.specs.Answers.{number, outcome as moved-outcome};
 ghost use Rattle.tape.specs.Calls.{move};
 ghost use Rattle.tape.specs.Steps.{step};
@@ -17,14 +17,14 @@ use listing::float_of;
 use tape::{Handle, Moved, Operand, Refusal, Tape};
 
 // What a line came to: 0 or the number of its refusal, and the state after it.
-#[derive(Drop)]
+#[derive(Clone, Copy)]
 pub(crate) struct Ran {
     pub number: u8,
     pub tape: Tape,
 }
 
 // The call that a line names.
-#[derive(Drop)]
+#[derive(Clone, Copy)]
 pub(crate) enum Call {
     Record(u8, Operand, Operand),
     Move(Move),
@@ -35,7 +35,7 @@ pub(crate) enum Call {
 }
 
 // The moves that a line can name.
-#[derive(Drop)]
+#[derive(Clone, Copy)]
 pub(crate) enum Move {
     SetMark,
     ResetMark,
@@ -54,8 +54,8 @@ pub(crate) fn run_line(
     child: &mut [u16],
     partial: &mut [f64],
 ) -> Ran
-    ensures { ran_as result (lent_after value adjoint serial count child partial)
-        ≡ told (run_read (line_of line) (machine tape (lent_before value adjoint serial count child partial))) }
+    ensures { ran_as result (lent_arrays value.new adjoint.new serial.new count.new child.new partial.new)
+        ≡ told (run_read (line_of line) (machine tape (lent_arrays value.old adjoint.old serial.old count.old child.old partial.old))) }
 {
     if !stands(line, tape.length) {
         return refused(Refusal::Stale, tape);
@@ -159,8 +159,8 @@ fn make(
     child: &mut [u16],
     partial: &mut [f64],
 ) -> Ran
-    ensures { ran_as result (lent_after value adjoint serial count child partial)
-        ≡ told (made call (machine tape (lent_before value adjoint serial count child partial))) }
+    ensures { ran_as result (lent_arrays value.new adjoint.new serial.new count.new child.new partial.new)
+        ≡ told (made call (machine tape (lent_arrays value.old adjoint.old serial.old count.old child.old partial.old))) }
 {
     match call {
         Call::Record(op, left, right) => recorded(expr::recording::record(

@@ -22,7 +22,7 @@ pub const SEED: u64 = 0x9e37_79b9_7f4a_7c15;
 const IN_EACH_PART: u64 = 0x0001_0001_0001_0001;
 
 // Where operands lie: anywhere in the node's own block, anywhere below the node, or next before it.
-#[derive(Drop)]
+#[derive(Clone, Copy)]
 pub enum Reach {
     Near,
     Anywhere,
@@ -30,7 +30,7 @@ pub enum Reach {
 }
 
 // A node to be recorded: its operation, where its operands lie, and the plain number.
-#[derive(Drop)]
+#[derive(Clone, Copy)]
 pub struct Recording {
     pub op: u8,
     pub left: usize,

@@ -2,53 +2,58 @@
 // left; or a digest of square roots; or the length of a listing, and a digest of the lent bytes.
 use crate::plan::{Reach, SEED, next};
 use crate::roots::Sort;
-use libc::STDOUT_FILENO;
 use listing::bits_of;
+use std::io;
 
-const DIGITS: usize = 16;
-
-pub(crate) fn rounds(reach: Reach, times: u64, edges: u32, value: &[f64], adjoint: &[f64]) {
-    name(reach);
-    number(b" times=", times);
-    number(b" nodes=", value.len() as u64);
-    number(b" edges=", edges as u64);
-    text(b" values=");
-    io::print_hex(STDOUT_FILENO, digest(value), DIGITS);
-    text(b" adjoints=");
-    io::print_hex(STDOUT_FILENO, digest(adjoint), DIGITS);
-    text(b"\n");
+pub(crate) fn rounds(
+    rt: &impl Print,
+    reach: Reach,
+    times: u64,
+    edges: u32,
+    value: &[f64],
+    adjoint: &[f64],
+) -> io::Result<()> {
+    name(rt, reach)?;
+    number(rt, b" times=", times)?;
+    number(rt, b" nodes=", value.len() as u64)?;
+    number(rt, b" edges=", edges as u64)?;
+    text(rt, b" values=")?;
+    print!(rt; "{:016x}", digest(value))?;
+    text(rt, b" adjoints=")?;
+    print!(rt; "{:016x}", digest(adjoint))?;
+    text(rt, b"\n")
 }
 
-pub(crate) fn roots(sort: Sort, times: u64, digest: u64) {
-    name_of_sort(sort);
-    number(b" times=", times);
-    text(b" digest=");
-    io::print_hex(STDOUT_FILENO, digest, DIGITS);
-    text(b"\n");
+pub(crate) fn roots(rt: &impl Print, sort: Sort, times: u64, digest: u64) -> io::Result<()> {
+    name_of_sort(rt, sort)?;
+    number(rt, b" times=", times)?;
+    text(rt, b" digest=")?;
+    print!(rt; "{digest:016x}")?;
+    text(rt, b"\n")
 }
 
-pub(crate) fn listing(times: u64, bytes: usize, out: &[u8]) {
-    text(b"listing");
-    number(b" times=", times);
-    number(b" bytes=", bytes as u64);
-    text(b" digest=");
-    io::print_hex(STDOUT_FILENO, digest_of_bytes(out), DIGITS);
-    text(b"\n");
+pub(crate) fn listing(rt: &impl Print, times: u64, bytes: usize, out: &[u8]) -> io::Result<()> {
+    text(rt, b"listing")?;
+    number(rt, b" times=", times)?;
+    number(rt, b" bytes=", bytes as u64)?;
+    text(rt, b" digest=")?;
+    print!(rt; "{:016x}", digest_of_bytes(out))?;
+    text(rt, b"\n")
 }
 
-fn name_of_sort(sort: Sort) {
+fn name_of_sort(rt: &impl Print, sort: Sort) -> io::Result<()> {
     match sort {
-        Sort::Doubles => text(b"doubles"),
-        Sort::Subnormals => text(b"subnormals"),
-        Sort::Idle => text(b"idle"),
+        Sort::Doubles => text(rt, b"doubles"),
+        Sort::Subnormals => text(rt, b"subnormals"),
+        Sort::Idle => text(rt, b"idle"),
     }
 }
 
-fn name(reach: Reach) {
+fn name(rt: &impl Print, reach: Reach) -> io::Result<()> {
     match reach {
-        Reach::Near => text(b"near"),
-        Reach::Anywhere => text(b"anywhere"),
-        Reach::Regular => text(b"regular"),
+        Reach::Near => text(rt, b"near"),
+        Reach::Anywhere => text(rt, b"anywhere"),
+        Reach::Regular => text(rt, b"regular"),
     }
 }
 
@@ -73,11 +78,11 @@ fn with_byte(sum: u64, byte: u8) -> u64 {
     next(sum ^ byte as u64)
 }
 
-fn number(label: &[u8], x: u64) {
-    text(label);
-    io::print_decimal(STDOUT_FILENO, x);
+fn number(rt: &impl Print, label: &[u8], x: u64) -> io::Result<()> {
+    text(rt, label)?;
+    print!(rt; "{x}")
 }
 
-fn text(bytes: &[u8]) {
-    io::write_all(STDOUT_FILENO, bytes);
+fn text(rt: &impl Print, bytes: &[u8]) -> io::Result<()> {
+    rt.write_all(bytes)
 }

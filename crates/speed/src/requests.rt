@@ -8,14 +8,14 @@ use crate::roots::Sort;
 const MOST_TIMES: u64 = 1_000_000;
 
 // Rounds on a tape, square roots, or listings.
-#[derive(Drop)]
+#[derive(Clone, Copy)]
 pub enum Plan {
     Tape(Reach),
     Roots(Sort),
     Listing,
 }
 
-#[derive(Drop)]
+#[derive(Clone, Copy)]
 pub struct Request {
     pub plan: Plan,
     pub named: bool,

@@ -10,7 +10,7 @@ const LEAST_NORMAL: u64 = 0x10_0000_0000_0000;
 
 // What is drawn: doubles of every exponent, subnormals of every length, or the doubles again, of which no root is taken,
 // since drawing needs time too.
-#[derive(Drop)]
+#[derive(Clone, Copy)]
 pub enum Sort {
     Doubles,
     Subnormals,
@@ -18,7 +18,7 @@ pub enum Sort {
 }
 
 // The last draw, and a digest of what came of all of them.
-#[derive(Drop)]
+#[derive(Clone, Copy)]
 pub struct Drawn {
     pub draw: u64,
     pub digest: u64,

@@ -9,7 +9,7 @@ use expr::{Recorded, Supplied};
 use tape::{Handle, Moved, Operand, Tape};
 
 // The tape after a round, and the edges that its walk visited.
-#[derive(Drop)]
+#[derive(Clone, Copy)]
 pub struct Round {
     pub tape: Tape,
     pub edges: u32,

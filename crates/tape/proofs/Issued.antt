@@ -5,7 +5,7 @@ use native.Mathlib.Decide.{dec_lt}
 use mathlib.Core.Path.{◌≡◌, refl, sym, ap, subst, ◌∙◌}
 use mathlib.Core.Bool.{Bool, true, false, not, ◌||◌, cond, true≢false}
 use mathlib.Core.List.{List, [], ◌∷◌}
-use mathlib.Core.Option.{Option, none, some, some-injective}
+use mathlib.Core.Option.{none, some, some-injective}
 use borrow.Author.Tests.{ltb-true, ltb-false, eqb-true, eqb-false, lt-ltb, le-ltb, eq-eqb, ne_eqb, not-true, not-false}
 use lib.Dec.{ltb, eqb}
 use lib.Seq.{get_or-set_other}
@@ -13,7 +13,7 @@ use Rattle.tape.specs.Numbers.{Numbers, floats}
 use Rattle.tape.specs.Machine.{Machine, machine, arrays, state}
 use Rattle.tape.specs.Handles.{plain, node, live, never_issued, counted_as, handles}
 use Rattle.tape.specs.Answers.{Answer, number, refused}
-use Rattle.tape.specs.Calls.{Call, start, stop, set_mark, reset_mark, rewind_to_mark, rewind_to_init, move, operate, clear, pass, open_pass, slice, value_of_lem, adjoint_of, is_live, list, carried}
+use Rattle.tape.specs.Calls.{Call, start, stop, set_mark, reset_mark, rewind_to_mark, rewind_to_init, move, operate, clear, pass, open_pass, slice, value_of, adjoint_of, is_live, list, carried}
 use Rattle.tape.specs.Admission.{let_in, in_turn}
 use Rattle.tape.specs.Refusals.{asked, refusal_of}
 use Rattle.tape.specs.Steps.{step, run}
@@ -123,14 +123,14 @@ is_three false false e = absurd (omega arith)
 
 module _ {N : Numbers} (h : Handle) (M : Machine N) where
   -- a handle that is not live, where its value is read
-  unread : (never : Bool) → let_in caller.Liveness M ≡ none → live M h ≡ false → never_issued M.state h ≡ never → RefusedFor h (cond never NeverIssued Stale) (value_of_lem (node h)) M
+  unread : (never : Bool) → let_in caller.Liveness M ≡ none → live M h ≡ false → never_issued M.state h ≡ never → RefusedFor h (cond never NeverIssued Stale) (value_of (node h)) M
   unfolding step
   unread never e dead sort = record { outcome = rw (same_turn M.state.walk, e, dead, sort); first = rw dead }
 
   -- a refusal counts 0
-  counted_so : (k : ℕ) (never : Bool) → (0 ≡ k → ⊥) → ((l n : Bool) → counts l n ≡ k → (l ≡ false) × (n ≡ never)) → (step (is_live (node h)) M).0.count ≡ k → RefusedFor h (cond never NeverIssued Stale) (value_of_lem (node h)) M
+  counted_so : (k : ℕ) (never : Bool) → (0 ≡ k → ⊥) → ((l n : Bool) → counts l n ≡ k → (l ≡ false) × (n ≡ never)) → (step (is_live (node h)) M).0.count ≡ k → RefusedFor h (cond never NeverIssued Stale) (value_of (node h)) M
   counted_so k never some-count so =
-      by_refusal (λ x. x.0.count ≡ k → RefusedFor h (cond never NeverIssued Stale) (value_of_lem (node h)) M) (is_live (node h)) M
+      by_refusal (λ x. x.0.count ≡ k → RefusedFor h (cond never NeverIssued Stale) (value_of (node h)) M) (is_live (node h)) M
       (λ _ _ e. absurd (some-count e))
       (λ p e. let (dead, sort) = so (live M h) (never_issued M.state h) e in unread never (granted p) dead sort)
 
@@ -139,10 +139,10 @@ module _ {N : Numbers} (h : Handle) (M : Machine N) where
   dead_so false e = refl
 
   -- and back: what is refused 3 or 11 was let in
-  back : (never : Bool) → first_not_live M (h ∷ []) ≡ some h → Sorted (value_of_lem (node h)) M never → (step (is_live (node h)) M).0.count ≡ counts false never
+  back : (never : Bool) → first_not_live M (h ∷ []) ≡ some h → Sorted (value_of (node h)) M never → (step (is_live (node h)) M).0.count ≡ counts false never
   unfolding step
   back never f s =
-      rw (← same_turn M.state.walk, s.in_so, dead_so (live M h) f, same_handle (value_of_lem (node h)) M h never f s)
+      rw (← same_turn M.state.walk, s.in_so, dead_so (live M h) f, same_handle (value_of (node h)) M h never f s)
 
 -- ---- serials
 
@@ -224,7 +224,7 @@ shortened {N} c M =
     by_call (pass p) l = absurd (omega arith)
     by_call (open_pass p) l = absurd (omega arith)
     by_call (slice n) l = absurd (omega arith)
-    by_call (value_of_lem x) l = absurd (omega arith)
+    by_call (value_of x) l = absurd (omega arith)
     by_call (adjoint_of x) l = absurd (omega arith)
     by_call (is_live x) l = absurd (omega arith)
     by_call (list bytes) l = absurd (omega arith)
@@ -254,8 +254,8 @@ pub sorting : Sorting
 sorting = record {
   refused_three = λ c M e. for_one c M Stale false e ((stepped c M).three e);
   refused_eleven = λ c M e. for_one c M NeverIssued true e ((stepped c M).eleven e);
-  counted_two = λ h M. (counted_so h M 2 false (λ e. omega arith) is_two, λ f. back h M false f.first (by_stale (value_of_lem (node h)) M h f));
-  counted_three = λ h M. (counted_so h M 3 true (λ e. omega arith) is_three, λ f. back h M true f.first (by_never (value_of_lem (node h)) M h f));
+  counted_two = λ h M. (counted_so h M 2 false (λ e. omega arith) is_two, λ f. back h M false f.first (by_stale (value_of (node h)) M h f));
+  counted_three = λ h M. (counted_so h M 3 true (λ e. omega arith) is_three, λ f. back h M true f.first (by_never (value_of (node h)) M h f));
   never_eleven = λ c M h later d e f. answered_issued c M h later e (never_so d (after later (step c M).1) h f);
   eleven_unanswered = λ cs M h d f. unanswered cs M h (never_so d (after cs M) h f);
   three_answered_once = λ A cs h d f. let (z, b) = issued_so (after cs (fresh A)).state h (stale_so d (after cs (fresh A)) h f) in once cs (fresh A) h.serial (omega arith) b;

@@ -14,7 +14,8 @@ use Rattle.tape.specs.declared.errors.Refusal.{Refusal}
 use Rattle.tape.specs.declared.tape.Moved.{Moved}
 use Rattle.tape.specs.declared.tape.Tape.{Tape}
 
-by_row : (o : Option Refusal) (t u : Tape) (A : Arrays floats) → outcome (moved_by (admitted o) t u) A ≡ unless (first (o ∷ [])) (machine t A) (done, machine u A)
+-- the other rows of the table ask nothing of a move
+by_row : (o : Option Refusal) (t u : Tape) (A : Arrays floats) → outcome (moved_by (admitted o) t u) A ≡ unless (first (o ∷ none ∷ none ∷ none ∷ none ∷ none ∷ none ∷ none ∷ [])) (machine t A) (done, machine u A)
 by_row none t u A = refl
 by_row (some r) t u A = refl
 

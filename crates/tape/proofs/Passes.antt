@@ -4,7 +4,7 @@ use Prim.Native.Nat.{ℕ, zero, suc, ◌+◌, ◌-◌, ◌≤◌, ◌<◌, zero-
 use native.Mathlib.Nat.{zero-add, add-zero, add-suc, suc-add, sub_self, add-sub_of_le}
 use native.Mathlib.Omega.{arith}
 use mathlib.Core.Path.{◌≡◌, refl, sym, ap, subst, ◌∙◌}
-use mathlib.Core.Bool.{true, false, true≢false, and-eq-true_iff}
+use mathlib.Core.Bool.{true, true≢false, and-eq-true_iff}
 use mathlib.Core.List.{List, [], ◌∷◌, ◌++◌, map, map-append}
 use mathlib.Core.Option.{some, none}
 use borrow.Author.Tests.{ltb-true}
@@ -16,9 +16,9 @@ use Rattle.tape.specs.Machine.{Arrays, Machine, machine, slot, all, most_nodes}
 use Rattle.tape.specs.Handles.{Operand, plain, node, handles}
 use Rattle.tape.specs.Walk.{Edge, push, walk, edges_from, edges_at, indexes, sum, visited, sound}
 use Rattle.tape.specs.Answers.{Answer, number, done, counted}
-use Rattle.tape.specs.Calls.{reset_mark, Pass, backward, backward_to_mark, backward_mark_to_start, propagate_to_mark, propagate_mark_to_start, Call, move, operate, clear, pass, open_pass, slice, value_of_lem, adjoint_of, is_live, list, moved, with_adjoints, Plan, plan, range, seeded, walked, left_of, slice_plan, carried}
+use Rattle.tape.specs.Calls.{reset_mark, Pass, backward, backward_to_mark, backward_mark_to_start, propagate_to_mark, propagate_mark_to_start, Call, move, operate, clear, pass, open_pass, slice, value_of, adjoint_of, is_live, list, moved, with_adjoints, Plan, plan, range, seeded, walked, left_of, slice_plan, carried}
 use Rattle.tape.specs.Admission.{walk_fits, let_in}
-use Rattle.tape.specs.Refusals.{refusal_of, asked, unknown, first_amiss, too_long}
+use Rattle.tape.specs.Refusals.{refusal_of, asked, first_amiss}
 use Rattle.tape.specs.Steps.{step, run}
 use Rattle.tape.specs.Kept.{fresh, after}
 use Rattle.tape.specs.Passes.{EachEdge, push_edge_by_edge, OnlyAdjoints, EmptyRange, BothRanges, NeverUnsound, Unrefused, counts, in_one, in_two}
@@ -78,7 +78,7 @@ pub only_adjoints : OnlyAdjoints
 only_adjoints = record {
   passes = λ p M. by_refusal (λ x. x.1 ≡ with_adjoints M x.1.lent.adjoint) (pass p) M (λ _ _. refl) (λ _. refl);
   clearing = λ M. by_refusal (λ x. x.1 ≡ with_adjoints M x.1.lent.adjoint) clear M (λ _ _. refl) (λ _. refl);
-  values = λ x M. by_refusal (λ y. y.1 ≡ M) (value_of_lem x) M (λ _ _. refl) (λ _. refl);
+  values = λ x M. by_refusal (λ y. y.1 ≡ M) (value_of x) M (λ _ _. refl) (λ _. refl);
   adjoints = λ x M. by_refusal (λ y. y.1 ≡ M) (adjoint_of x) M (λ _ _. refl) (λ _. refl);
   liveness = λ x M. by_refusal (λ y. y.1 ≡ M) (is_live x) M (λ _ _. refl) (λ _. refl);
   listings = λ bytes M. by_refusal (λ y. y.1 ≡ M) (list bytes) M (λ _ _. refl) (λ _. refl);
@@ -200,7 +200,7 @@ module _ {N : Numbers} (M : Machine N) (nodes : SoundNodes M) where
   range_sound (move m) _ _ = refl
   range_sound (operate op left right g) _ _ = refl
   range_sound clear _ _ = refl
-  range_sound (value_of_lem x) _ _ = refl
+  range_sound (value_of x) _ _ = refl
   range_sound (adjoint_of x) _ _ = refl
   range_sound (is_live x) _ _ = refl
   range_sound (list bytes) _ _ = refl
@@ -228,7 +228,7 @@ carried_number clear M = refl
 carried_number (pass p) M = refl
 carried_number (open_pass p) M = refl
 carried_number (slice n) M = refl
-carried_number (value_of_lem x) M = refl
+carried_number (value_of x) M = refl
 carried_number (adjoint_of x) M = refl
 carried_number (is_live x) M = refl
 carried_number (list bytes) M = refl

@@ -15,8 +15,8 @@ use Rattle.tape.specs.Machine.{Machine, arrays, machine, capacity, all, most_nod
 use Rattle.tape.specs.Handles.{Operand, plain, node, live, never_issued, amiss, any_plain, operand_value, handles, lives}
 use Rattle.tape.specs.Operations.{Given, apply, one_sided}
 use Rattle.tape.specs.Walk.{Edge, sound}
-use Rattle.tape.specs.Answers.{Answer, number, answer, refused, recorded}
-use Rattle.tape.specs.Calls.{Move, start, stop, set_mark, reset_mark, rewind_to_mark, rewind_to_init, Call, move, operate, clear, pass, open_pass, slice, value_of_lem, adjoint_of, is_live, list, edge, edges, issued, written, carried}
+use Rattle.tape.specs.Answers.{Answer, answer, refused, recorded}
+use Rattle.tape.specs.Calls.{Move, start, stop, set_mark, reset_mark, rewind_to_mark, rewind_to_init, Call, move, operate, clear, pass, open_pass, slice, value_of, adjoint_of, is_live, list, edge, edges, issued, written, carried}
 use Rattle.tape.specs.Admission.{lengths, is_lent, fitting, fits, while_open, in_turn, slice_fits, head_tests, admission, admitted, let_in, when, first}
 use Rattle.tape.specs.Refusals.{Asked, too_long, mover, asked, refusals, refusal_of, unknown, first_amiss, would_record, last_serial}
 use Rattle.tape.specs.Steps.{unless, step}
@@ -299,7 +299,7 @@ carried_effect clear M p = keeps (le_refl _) refl
 carried_effect (pass p) M _ = keeps (le_refl _) refl
 carried_effect (open_pass p) M _ = keeps (le_refl _) refl
 carried_effect (slice n) M _ = keeps (le_refl _) refl
-carried_effect (value_of_lem x) M p = keeps (le_refl _) refl
+carried_effect (value_of x) M p = keeps (le_refl _) refl
 carried_effect (adjoint_of x) M p = keeps (le_refl _) refl
 carried_effect (is_live x) M p = keeps (le_refl _) refl
 carried_effect (list bytes) M p = keeps (le_refl _) refl

@@ -6,7 +6,7 @@ use mathlib.Core.Bool.{Bool, true, false, true≢false}
 use Rattle.tape.specs.Numbers.{Numbers}
 use Rattle.tape.specs.Machine.{Machine, most_nodes}
 use Rattle.tape.specs.Answers.{refused, number}
-use Rattle.tape.specs.Calls.{move, start, stop, set_mark, reset_mark, rewind_to_mark, rewind_to_init, Call, operate, clear, pass, open_pass, slice, value_of_lem, adjoint_of, is_live, list}
+use Rattle.tape.specs.Calls.{move, start, stop, set_mark, reset_mark, rewind_to_mark, rewind_to_init, Call, operate, clear, pass, open_pass, slice, value_of, adjoint_of, is_live, list}
 use Rattle.tape.specs.Admission.{is_lent, walk_fits, fits, while_open, while_closed, in_turn}
 use Rattle.tape.specs.Refusals.{asked}
 use Rattle.tape.specs.Steps.{step}
@@ -60,7 +60,7 @@ along (operate op left right g) M = refl
 along clear M = refl
 along (pass p) M = refl
 along (open_pass p) M = refl
-along (value_of_lem x) M = refl
+along (value_of x) M = refl
 along (is_live x) M = refl
 
 any_but_slice : {N : Numbers} (c : Call N) (M : Machine N) → ((n : ℕ) → c ≡ slice n → ⊥) → while_closed (caller_of c M) ≡ true
@@ -77,7 +77,7 @@ any_but_slice (operate op left right g) M other = refl
 any_but_slice clear M other = refl
 any_but_slice (pass p) M other = refl
 any_but_slice (open_pass p) M other = refl
-any_but_slice (value_of_lem x) M other = refl
+any_but_slice (value_of x) M other = refl
 any_but_slice (is_live x) M other = refl
 
 -- a call in its turn is not refused 12

@@ -32,7 +32,7 @@ pub data Call (N : Numbers) : Type 0 where
   -- opens the walk of a pass, and continues the one that is open by so many nodes
   open_pass : Pass N → Call N
   slice : ℕ → Call N
-  value_of_lem adjoint_of is_live : Operand N → Call N
+  value_of adjoint_of is_live : Operand N → Call N
   -- how many bytes are lent for it
   list : ℕ → Call N
 
@@ -171,7 +171,7 @@ carried {N} (slice n) M =
     let s = left_of M.state.walk in
     let P : Plan N = slice_plan n s in
     (cut (visited M.lent (range P)) (nodes_in (slice_leaves n s)), leaving (slice_leaves n s) (walked P M))
-carried (value_of_lem x) M = (read_value (operand_value M x), M)
+carried (value_of x) M = (read_value (operand_value M x), M)
 carried (adjoint_of x) M = (read_value (gradient M x), M)
 carried (is_live x) M = (counted (liveness M x), M)
 carried (list bytes) M = (counted (length (listing M)), M)

@@ -7,7 +7,7 @@ use Rattle.tape.specs.Numbers.{Numbers, floats}
 use Rattle.tape.specs.Machine.{Arrays, Machine}
 use Rattle.tape.specs.Handles.{node, live, never_issued, handles}
 use Rattle.tape.specs.Answers.{refused}
-use Rattle.tape.specs.Calls.{Call, start, stop, set_mark, reset_mark, rewind_to_mark, rewind_to_init, move, operate, clear, pass, open_pass, slice, value_of_lem, adjoint_of, is_live, list}
+use Rattle.tape.specs.Calls.{Call, start, stop, set_mark, reset_mark, rewind_to_mark, rewind_to_init, move, operate, clear, pass, open_pass, slice, value_of, adjoint_of, is_live, list}
 use Rattle.tape.specs.Refusals.{asked}
 use Rattle.tape.specs.Steps.{step, run}
 use Rattle.tape.specs.Kept.{fresh, after, serials}
@@ -48,7 +48,7 @@ takes_off clear = false
 takes_off (pass p) = false
 takes_off (open_pass p) = false
 takes_off (slice n) = false
-takes_off (value_of_lem x) = false
+takes_off (value_of x) = false
 takes_off (adjoint_of x) = false
 takes_off (is_live x) = false
 takes_off (list bytes) = false
@@ -62,11 +62,11 @@ pub record Sorting : Type 1 where
       → (h : Handle) × RefusedFor h NeverIssued c M × (never_issued M.state h ≡ true)
   -- is_live counts 2 or 3 of a handle exactly where its value is refused 3 or 11
   pub counted_two : {N : Numbers} (h : Handle) (M : Machine N)
-      → ((step (is_live (node h)) M).0.count ≡ 2 → RefusedFor h Stale (value_of_lem (node h)) M)
-      × (RefusedFor h Stale (value_of_lem (node h)) M → (step (is_live (node h)) M).0.count ≡ 2)
+      → ((step (is_live (node h)) M).0.count ≡ 2 → RefusedFor h Stale (value_of (node h)) M)
+      × (RefusedFor h Stale (value_of (node h)) M → (step (is_live (node h)) M).0.count ≡ 2)
   pub counted_three : {N : Numbers} (h : Handle) (M : Machine N)
-      → ((step (is_live (node h)) M).0.count ≡ 3 → RefusedFor h NeverIssued (value_of_lem (node h)) M)
-      × (RefusedFor h NeverIssued (value_of_lem (node h)) M → (step (is_live (node h)) M).0.count ≡ 3)
+      → ((step (is_live (node h)) M).0.count ≡ 3 → RefusedFor h NeverIssued (value_of (node h)) M)
+      × (RefusedFor h NeverIssued (value_of (node h)) M → (step (is_live (node h)) M).0.count ≡ 3)
   -- a handle that a call answered is never refused 11, whatever calls follow
   pub never_eleven : {N : Numbers} (c : Call N) (M : Machine N) (h : Handle) (later : List (Call N)) (d : Call N)
       → (step c M).0.handle ≡ some h → RefusedFor h NeverIssued d (after later (step c M).1) → ⊥
@@ -89,5 +89,5 @@ pub record TakenUpLater : Type 0 where
   pub before : Machine floats
   pub calls : List (Call floats)
   pub handle : Handle
-  pub refused_three : RefusedFor handle Stale (value_of_lem (node handle)) (after calls before)
+  pub refused_three : RefusedFor handle Stale (value_of (node handle)) (after calls before)
   pub unanswered : how_often handle.serial (serials (run calls before).0) ≡ 0

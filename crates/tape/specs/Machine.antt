@@ -1,8 +1,6 @@
 -- The machine: a small state and six lent arrays. The state is the code's own `Tape`: length, mark, active flag, next
 -- serial and the walk that is open, if one is.
 use Rattle.std.specs.Prelude.{ℕ, ◌*◌, Bool, true, false, ◌&&◌, cond, List, [], ◌∷◌, ltb, length}
-use Rattle.std.specs.Borrow.{Bor}
-use denote.Triple.Both.{Both}
 use Rattle.tape.specs.Numbers.{Numbers, floats}
 use Rattle.tape.specs.declared.tape.Span.{Span}
 use Rattle.tape.specs.declared.tape.Tape.{Tape}
@@ -83,17 +81,7 @@ walk_left s = cond (ltb s.from s.end) (Open s) Closed
 
 -- ---- what a call is lent, in a promise
 
-abbrev pub Lent : Type 0 → Type 0
-Lent X = Both (Bor (List X)) (Bor (List X))
-
--- the six arrays as the call finds them
-abbrev pub lent_before : Lent floats.Number → Lent floats.Number → Lent ℕ → Lent ℕ → Lent ℕ
-    → Lent floats.Number → Arrays floats
-lent_before v a s c h p =
-    arrays v.entry.now a.entry.now s.entry.now c.entry.now h.entry.now p.entry.now
-
--- and as it leaves them
-abbrev pub lent_after : Lent floats.Number → Lent floats.Number → Lent ℕ → Lent ℕ → Lent ℕ → Lent floats.Number
+-- the six arrays as the call finds them (`.old`, or `.now` of what is lent to be read alone), or as it leaves them (`.new`)
+abbrev pub lent_arrays : List floats.Number → List floats.Number → List ℕ → List ℕ → List ℕ → List floats.Number
     → Arrays floats
-lent_after v a s c h p =
-    arrays v.exit.now a.exit.now s.exit.now c.exit.now h.exit.now p.exit.now
+lent_arrays = arrays

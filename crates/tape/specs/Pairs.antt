@@ -7,7 +7,7 @@ use Rattle.tape.specs.Machine.{Arrays, Machine, arrays, machine, slot, state}
 use Rattle.tape.specs.Handles.{Operand, plain, node}
 use Rattle.tape.specs.Operations.{ADD, NEGATE, UNKNOWN}
 use Rattle.tape.specs.Answers.{refused}
-use Rattle.tape.specs.Calls.{Call, clear, pass, open_pass, slice, backward, backward_to_mark, value_of_lem, adjoint_of, list}
+use Rattle.tape.specs.Calls.{Call, clear, pass, open_pass, slice, backward, backward_to_mark, value_of, adjoint_of, list}
 use Rattle.tape.specs.Refusals.{last_serial}
 use Rattle.tape.specs.Steps.{step}
 use Rattle.tape.specs.Rows.{float, handle, node_at, leaf, binary, with_open}
@@ -75,9 +75,9 @@ Refused c M r = (step c M).0 ≡ refused r
 pub record Order : Type 0 where
   pub one_and_two : Refused (unknown (node_at 0)) (misshapen roomy) Misshapen
       × Refused (unknown (node_at 0)) (on roomy) UnknownOperation
-  pub one_and_three : Refused (value_of_lem stale) (misshapen roomy) Misshapen × Refused (value_of_lem stale) (on roomy) Stale
-  pub one_and_eleven : Refused (value_of_lem made_up) (misshapen roomy) Misshapen
-      × Refused (value_of_lem made_up) (on roomy) NeverIssued
+  pub one_and_three : Refused (value_of stale) (misshapen roomy) Misshapen × Refused (value_of stale) (on roomy) Stale
+  pub one_and_eleven : Refused (value_of made_up) (misshapen roomy) Misshapen
+      × Refused (value_of made_up) (on roomy) NeverIssued
   pub one_and_four : Refused (adjoint_of a_number) (misshapen roomy) Misshapen
       × Refused (adjoint_of a_number) (on roomy) Detached
   pub one_and_five : Refused (leaf (float 5)) (misshapen full) Misshapen × Refused (leaf (float 5)) (on full) Full
@@ -120,10 +120,10 @@ pub record Order : Type 0 where
   pub twelve_and_thirteen : Refused (slice 0) (on roomy) OutOfTurn × Refused (slice 0) (walking (on roomy)) UnfitSlice
   pub twelve_and_two : Refused (unknown (node_at 0)) (walking (on roomy)) OutOfTurn
       × Refused (unknown (node_at 0)) (on roomy) UnknownOperation
-  pub twelve_and_three : Refused (value_of_lem stale) (walking (on roomy)) OutOfTurn
-      × Refused (value_of_lem stale) (on roomy) Stale
-  pub twelve_and_eleven : Refused (value_of_lem made_up) (walking (on roomy)) OutOfTurn
-      × Refused (value_of_lem made_up) (on roomy) NeverIssued
+  pub twelve_and_three : Refused (value_of stale) (walking (on roomy)) OutOfTurn
+      × Refused (value_of stale) (on roomy) Stale
+  pub twelve_and_eleven : Refused (value_of made_up) (walking (on roomy)) OutOfTurn
+      × Refused (value_of made_up) (on roomy) NeverIssued
   pub twelve_and_four : Refused (open_pass (backward a_number)) (walking (on roomy)) OutOfTurn
       × Refused (open_pass (backward a_number)) (on roomy) Detached
   pub twelve_and_five : Refused (leaf (float 5)) (walking (on full)) OutOfTurn × Refused (leaf (float 5)) (on full) Full

@@ -5,7 +5,7 @@ use Rattle.tape.specs.Machine.{Arrays, Machine, all}
 use Rattle.tape.specs.Handles.{Operand}
 use Rattle.tape.specs.Walk.{Edge, push, walk, edges_at, sum, visited}
 use Rattle.tape.specs.Answers.{Answer, counted}
-use Rattle.tape.specs.Calls.{move, reset_mark, Pass, Call, pass, propagate_to_mark, propagate_mark_to_start, clear, value_of_lem, adjoint_of, is_live, list, with_adjoints}
+use Rattle.tape.specs.Calls.{move, reset_mark, Pass, Call, pass, propagate_to_mark, propagate_mark_to_start, clear, value_of, adjoint_of, is_live, list, with_adjoints}
 use Rattle.tape.specs.Admission.{fits}
 use Rattle.tape.specs.Steps.{step, run}
 use Rattle.tape.specs.Kept.{fresh, after}
@@ -33,7 +33,7 @@ pub record OnlyAdjoints : Type 1 where
       → let after = (step (pass p) M).1 in after ≡ with_adjoints M after.lent.adjoint
   pub clearing : {N : Numbers} (M : Machine N)
       → let after = (step clear M).1 in after ≡ with_adjoints M after.lent.adjoint
-  pub values : {N : Numbers} (x : Operand N) (M : Machine N) → (step (value_of_lem x) M).1 ≡ M
+  pub values : {N : Numbers} (x : Operand N) (M : Machine N) → (step (value_of x) M).1 ≡ M
   pub adjoints : {N : Numbers} (x : Operand N) (M : Machine N) → (step (adjoint_of x) M).1 ≡ M
   pub liveness : {N : Numbers} (x : Operand N) (M : Machine N) → (step (is_live x) M).1 ≡ M
   pub listings : {N : Numbers} (bytes : ℕ) (M : Machine N) → (step (list bytes) M).1 ≡ M

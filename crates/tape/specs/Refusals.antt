@@ -8,7 +8,7 @@ use Rattle.tape.specs.Handles.{Operand, live, amiss, handles, any_plain}
 use Rattle.tape.specs.Operations.{known, used}
 use Rattle.tape.specs.Walk.{sound}
 use Rattle.tape.specs.Listing.{listing}
-use Rattle.tape.specs.Calls.{Move, start, stop, set_mark, reset_mark, rewind_to_mark, rewind_to_init, Pass, Call, move, operate, clear, pass, open_pass, slice, value_of_lem, adjoint_of, is_live, list, plan, left_of, slice_plan, range}
+use Rattle.tape.specs.Calls.{Move, start, stop, set_mark, reset_mark, rewind_to_mark, rewind_to_init, Pass, Call, move, operate, clear, pass, open_pass, slice, value_of, adjoint_of, is_live, list, plan, left_of, slice_plan, range}
 use Rattle.tape.specs.declared.admission.Caller.{Caller}
 use Rattle.tape.specs.declared.admission.Caller.TheVariants as caller
 use Rattle.tape.specs.declared.errors.Refusal.{Refusal}
@@ -75,7 +75,7 @@ asked clear t = asks caller.Clearing
 asked (pass p) t = passing p t
 asked (open_pass p) t = passing p t
 asked {N} (slice n) t = with_range (range (slice_plan {N = N} n (left_of t.walk))) (asks (caller.Slice n))
-asked (value_of_lem x) t = with_operands (x ∷ []) (asks caller.Value)
+asked (value_of x) t = with_operands (x ∷ []) (asks caller.Value)
 asked (adjoint_of x) t = all_on_tape (with_operands (x ∷ []) (asks caller.Adjoint))
 asked (is_live x) t = asks caller.Liveness
 asked (list bytes) t = with_room bytes (asks caller.Listing)

@@ -12,7 +12,7 @@ use Rattle.tape.specs.Handles.{Operand, plain, node}
 use Rattle.tape.specs.Operations.{Given, LEAF, ADD, MULTIPLY, MAX, MIN, SUPPLIED_ONE, SUPPLIED_TWO, SQRT}
 use Rattle.tape.specs.Listing.{header, listing}
 use Rattle.tape.specs.Answers.{Answer, refused, done, read_value, recorded, counted, cut}
-use Rattle.tape.specs.Calls.{Pass, Call, move, start, stop, set_mark, reset_mark, rewind_to_mark, rewind_to_init, operate, clear, pass, open_pass, slice, backward, backward_to_mark, backward_mark_to_start, propagate_to_mark, propagate_mark_to_start, value_of_lem, adjoint_of, is_live, list}
+use Rattle.tape.specs.Calls.{Pass, Call, move, start, stop, set_mark, reset_mark, rewind_to_mark, rewind_to_init, operate, clear, pass, open_pass, slice, backward, backward_to_mark, backward_mark_to_start, propagate_to_mark, propagate_mark_to_start, value_of, adjoint_of, is_live, list}
 use Rattle.tape.specs.Refusals.{last_serial}
 use Rattle.tape.specs.Steps.{run}
 use Rattle.tape.specs.Kept.{fresh, after}
@@ -203,7 +203,7 @@ P8 =
       calls =
           move start ∷ leaf (float 3) ∷ move set_mark ∷ plus (node_at 0) (node_at 0) ∷ pass (backward old) ∷ is_live old
           ∷ move rewind_to_mark ∷ leaf (float 2)
-          ∷ adjoint_of new ∷ plus old (node_at 0) ∷ pass (backward old) ∷ value_of_lem old ∷ adjoint_of old ∷ is_live old
+          ∷ adjoint_of new ∷ plus old (node_at 0) ∷ pass (backward old) ∷ value_of old ∷ adjoint_of old ∷ is_live old
           ∷ is_live new ∷ [];
       answers =
           done ∷ recorded (float 3) (first 0) ∷ done ∷ recorded (float 6) (handle 1 2) ∷ counted 2 ∷ counted 1 ∷ done
@@ -268,7 +268,7 @@ abbrev pub plain_numbers : Row
 plain_numbers =
     let x = plain (float 5) in
     on_four
-    (value_of_lem x ∷ is_live x ∷ adjoint_of x ∷ pass (backward x) ∷ pass (backward_to_mark x) ∷ pass (backward_mark_to_start x) ∷ value_of_lem (node_at 2) ∷ adjoint_of (node_at 1) ∷ [])
+    (value_of x ∷ is_live x ∷ adjoint_of x ∷ pass (backward x) ∷ pass (backward_to_mark x) ∷ pass (backward_mark_to_start x) ∷ value_of (node_at 2) ∷ adjoint_of (node_at 1) ∷ [])
     (read_value (float 5) ∷ counted 0 ∷ refused Detached ∷ refused Detached ∷ refused Detached ∷ refused Detached ∷ read_value (float 6) ∷ read_value (float 3) ∷ [])
     (four_adjoints ∷ [])
 
@@ -303,7 +303,7 @@ mark_over_length = record {
   before = machine (state 1 2 true 8) (sevens 2);
   calls =
       move start ∷ times (node_at 0) (node_at 0) ∷ clear ∷ pass (backward (node_at 0)) ∷ pass propagate_to_mark
-      ∷ value_of_lem (node_at 0) ∷ adjoint_of (plain (float 1)) ∷ is_live (node_at 0) ∷ list 0 ∷ [];
+      ∷ value_of (node_at 0) ∷ adjoint_of (plain (float 1)) ∷ is_live (node_at 0) ∷ list 0 ∷ [];
   answers = replicate 9 (refused Misshapen);
   sights = adjoints (float 7 ∷ float 7 ∷ []) ∷ [];
 }
@@ -406,7 +406,7 @@ on_unpassed calls answers after =
 abbrev pub cut_in_three : Row
 cut_in_three =
     on_unpassed
-    (open_pass (backward (node_at 3)) ∷ adjoint_of (node_at 2) ∷ slice 1 ∷ adjoint_of (node_at 0) ∷ slice 2 ∷ list 220 ∷ slice 5 ∷ value_of_lem (node_at 3) ∷ [])
+    (open_pass (backward (node_at 3)) ∷ adjoint_of (node_at 2) ∷ slice 1 ∷ adjoint_of (node_at 0) ∷ slice 2 ∷ list 220 ∷ slice 5 ∷ value_of (node_at 3) ∷ [])
     (cut 0 4 ∷ read_value (float 0) ∷ cut 2 3 ∷ read_value (float 1) ∷ cut 2 1 ∷ counted 220 ∷ cut 0 0 ∷ read_value (float 9) ∷ [])
     (float 3 ∷ float 3 ∷ float 1 ∷ float 1 ∷ float 7 ∷ [])
 
@@ -414,7 +414,7 @@ cut_in_three =
 abbrev pub opened_empty : Row
 opened_empty =
     on_unpassed
-    (open_pass (backward_mark_to_start (node_at 1)) ∷ slice 1 ∷ value_of_lem (node_at 1) ∷ [])
+    (open_pass (backward_mark_to_start (node_at 1)) ∷ slice 1 ∷ value_of (node_at 1) ∷ [])
     (cut 0 0 ∷ refused OutOfTurn ∷ read_value (float 2) ∷ [])
     (float 0 ∷ float 1 ∷ float 0 ∷ float 0 ∷ float 7 ∷ [])
 
@@ -424,7 +424,7 @@ while_it_is_open =
     on_unpassed
     (open_pass propagate_to_mark
     ∷ move stop ∷ move set_mark ∷ move reset_mark ∷ move rewind_to_mark ∷ move rewind_to_init ∷ leaf (float 5) ∷ clear
-    ∷ pass (backward (node_at 3)) ∷ pass propagate_mark_to_start ∷ open_pass propagate_to_mark ∷ value_of_lem (node_at 3)
+    ∷ pass (backward (node_at 3)) ∷ pass propagate_mark_to_start ∷ open_pass propagate_to_mark ∷ value_of (node_at 3)
     ∷ is_live (node_at 3)
     ∷ slice 1 ∷ adjoint_of (node_at 3) ∷ list 220 ∷ move start ∷ slice 1 ∷ leaf (float 5) ∷ [])
     (cut 0 4
@@ -468,7 +468,7 @@ unsound_below =
 abbrev pub own_nodes : Row
 own_nodes = record {
   before = with_open 0 2 unsound_below;
-  calls = slice 2 ∷ slice 1 ∷ slice 1 ∷ leaf (float 5) ∷ value_of_lem (plain (float 5)) ∷ is_live (plain (float 5)) ∷ pass propagate_to_mark ∷ [];
+  calls = slice 2 ∷ slice 1 ∷ slice 1 ∷ leaf (float 5) ∷ value_of (plain (float 5)) ∷ is_live (plain (float 5)) ∷ pass propagate_to_mark ∷ [];
   answers = refused UnsoundEdge ∷ cut 0 1 ∷ refused UnsoundEdge ∷ replicate 4 (refused OutOfTurn);
   sights = adjoints (float 7 ∷ float 7 ∷ []) ∷ [];
 }
@@ -501,7 +501,7 @@ EverySlice =
 abbrev pub tries : Handle → List (Call floats)
 tries h =
     let x = node h in
-    value_of_lem x ∷ adjoint_of x ∷ is_live x ∷ pass (backward x) ∷ open_pass (backward_to_mark x) ∷ plus x x ∷ []
+    value_of x ∷ adjoint_of x ∷ is_live x ∷ pass (backward x) ∷ open_pass (backward_to_mark x) ∷ plus x x ∷ []
 
 -- what they answer: is_live this count, and each of the others this refusal
 abbrev pub met : Refusal → ℕ → List (Answer floats)
@@ -545,7 +545,7 @@ given_later =
     let next = node (handle 4 5) in
     let elsewhere = node (handle 0 5) in
     on_leaves
-    (value_of_lem next ∷ value_of_lem elsewhere ∷ leaf (float 8) ∷ value_of_lem next ∷ value_of_lem elsewhere ∷ [])
+    (value_of next ∷ value_of elsewhere ∷ leaf (float 8) ∷ value_of next ∷ value_of elsewhere ∷ [])
     (refused NeverIssued ∷ refused NeverIssued ∷ recorded (float 8) (first 4) ∷ read_value (float 8) ∷ refused Stale ∷ [])
     (replicate 4 (float 7) ++ (float 0 ∷ []))
 
@@ -553,7 +553,7 @@ given_later =
 abbrev pub live_first : Row
 live_first = record {
   before = machine (state 1 0 true 3) (sevens 1);
-  calls = value_of_lem (node (handle 0 7)) ∷ is_live (node (handle 0 7)) ∷ value_of_lem (node (handle 0 3)) ∷ value_of_lem (node (handle 0 2)) ∷ [];
+  calls = value_of (node (handle 0 7)) ∷ is_live (node (handle 0 7)) ∷ value_of (node (handle 0 3)) ∷ value_of (node (handle 0 2)) ∷ [];
   answers = read_value (float 7) ∷ counted 1 ∷ refused NeverIssued ∷ refused Stale ∷ [];
   sights = [];
 }

@@ -5,7 +5,7 @@ use Rattle.std.specs.Prelude.{ℕ, ◌+◌, ◌-◌, ◌/◌, ◌≤◌, ◌<◌
 use Rattle.tape.specs.Numbers.{Numbers}
 use Rattle.tape.specs.Machine.{Machine, machine, most_nodes, with_walk}
 use Rattle.tape.specs.Answers.{refused}
-use Rattle.tape.specs.Calls.{move, start, stop, set_mark, reset_mark, rewind_to_mark, rewind_to_init, Pass, Call, operate, clear, pass, open_pass, slice, value_of_lem, adjoint_of, is_live, list, with_adjoints, plan, range, nodes_in, left_of}
+use Rattle.tape.specs.Calls.{move, start, stop, set_mark, reset_mark, rewind_to_mark, rewind_to_init, Pass, Call, operate, clear, pass, open_pass, slice, value_of, adjoint_of, is_live, list, with_adjoints, plan, range, nodes_in, left_of}
 use Rattle.tape.specs.Refusals.{refusal_of}
 use Rattle.tape.specs.Steps.{step, run}
 use Rattle.tape.specs.Kept.{after}
@@ -41,7 +41,7 @@ goes_along (operate op left right g) = false
 goes_along clear = false
 goes_along (pass p) = false
 goes_along (open_pass p) = false
-goes_along (value_of_lem x) = false
+goes_along (value_of x) = false
 goes_along (is_live x) = false
 
 -- Unless it is refused 1, every other call is refused 12 while a walk is open, and a slice while none is; nothing else

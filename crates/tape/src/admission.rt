@@ -1,7 +1,7 @@
 // The admission: what is asked at the head of every call, which is told which call asks and how long the arrays are
 // that it is lent.
 ghost use Rattle.std.specs.Prelude.{◌≡◌, true};
-ghost use Rattle.tape.specs.Machine.{all, lent_before};
+ghost use Rattle.tape.specs.Machine.{all, lent_arrays};
 ghost use Rattle.tape.specs.Admission.{lengths, is_lent, walk_fits, state_fits, fitting, while_open, while_closed, in_turn, slice_fits, admission, admitted};
 
 use crate::errors::Refusal;
@@ -9,7 +9,7 @@ use crate::node::{MOST_EDGES, MOST_NODES};
 use crate::tape::{Tape, Walk};
 
 // Which call asks to be let in. A pass asks alike whether it is opened or goes on to its end.
-#[derive(Drop)]
+#[derive(Clone, Copy)]
 pub enum Caller {
     Start,
     Move,
@@ -25,7 +25,7 @@ pub enum Caller {
 }
 
 // The lengths of the six lent arrays.
-#[derive(Drop)]
+#[derive(Clone, Copy)]
 pub struct Lengths {
     pub value: usize,
     pub adjoint: usize,
@@ -36,7 +36,7 @@ pub struct Lengths {
 }
 
 // A call is let in, or refused at the head.
-#[derive(Drop)]
+#[derive(Clone, Copy)]
 pub enum Admission {
     Granted,
     Refused(Refusal),
@@ -62,7 +62,7 @@ impl Lengths {
         child: &[u16],
         partial: &[f64],
     ) -> Lengths
-        ensures { result ≡ lengths (lent_before value adjoint serial count child partial) }
+        ensures { result ≡ lengths (lent_arrays value.now adjoint.now serial.now count.now child.now partial.now) }
     {
         Lengths {
             value: value.len(),

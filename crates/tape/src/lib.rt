@@ -2,6 +2,8 @@
 //
 // specs/ hold document 01's machine. A call on the tape, here and in the crates above, is one step of it;
 // `Tape::admit`, `Tape::walking`, `Lengths::of`, `Handle::lookup` and `Handle::usable` are what such calls are made of.
+#![tactic(auto)]
+
 pub mod admission;
 pub mod errors;
 pub mod node;

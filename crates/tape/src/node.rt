@@ -12,20 +12,20 @@ pub const MOST_NODES: usize = 65_535;
 pub const MOST_EDGES: usize = 2;
 
 // The node at index, as long as the serial stored there is this one.
-#[derive(Drop)]
+#[derive(Clone, Copy)]
 pub struct Handle {
     pub index: usize,
     pub serial: u64,
 }
 
-#[derive(Drop)]
+#[derive(Clone, Copy)]
 pub enum Operand {
     Number(f64),
     Node(Handle),
 }
 
 // What a lookup finds behind a handle.
-#[derive(Drop)]
+#[derive(Clone, Copy)]
 pub enum Lookup {
     Live,
     Stale,
@@ -33,7 +33,7 @@ pub enum Lookup {
 }
 
 // Whether a call may use a handle, or why it is refused.
-#[derive(Drop)]
+#[derive(Clone, Copy)]
 pub enum Usable {
     Live,
     Refused(Refusal),

@@ -13,20 +13,20 @@ use crate::admission::{Admission, Caller, Lengths};
 use crate::errors::Refusal;
 
 // The nodes from end - 1 down to from.
-#[derive(Drop)]
+#[derive(Clone, Copy)]
 pub struct Span {
     pub from: usize,
     pub end: usize,
 }
 
 // The walk that is open, if one is: the nodes that are left of it.
-#[derive(Drop)]
+#[derive(Clone, Copy)]
 pub enum Walk {
     Closed,
     Open(Span),
 }
 
-#[derive(Drop)]
+#[derive(Clone, Copy)]
 pub struct Tape {
     pub length: usize,
     pub mark: usize,
@@ -36,7 +36,7 @@ pub struct Tape {
 }
 
 // What start, stop, a mark or a rewind answers: the state after it, or the refusal and the state as it was.
-#[derive(Drop)]
+#[derive(Clone, Copy)]
 pub enum Moved {
     Done(Tape),
     Refused(Refusal, Tape),

@@ -1,4 +1,6 @@
 // Numbers as text: written into lent bytes, and read.
+#![tactic(auto)]
+
 mod read;
 mod write;
 

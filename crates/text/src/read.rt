@@ -4,7 +4,7 @@ ghost use Rattle.text.specs.Parsed.{digit_value, leading_zero, read_on, read_hex
 
 use crate::write::HEX_DIGITS;
 
-#[derive(Drop)]
+#[derive(Clone, Copy)]
 pub enum Parsed {
     Number(u64),
     NotANumber,

@@ -6,7 +6,7 @@ ghost use Rattle.track.specs.Total.{total, float_total};
 
 // An interval as it is recorded: the square of scaled - seen * root is what it is off, squared, over its cells; and the
 // clip is a quarter of a nominal cell, squared, over its cells.
-#[derive(Drop)]
+#[derive(Clone, Copy)]
 pub struct Weighed {
     pub scaled: f64,
     pub root: f64,

@@ -6,7 +6,7 @@ ghost use Rattle.track.specs.Parts.{part_count, part};
 pub const PART: usize = 1_024;
 
 // Which intervals of the turn a part has: those from `from` on and before `end`.
-#[derive(Drop)]
+#[derive(Clone, Copy)]
 pub struct Part {
     pub from: usize,
     pub end: usize,

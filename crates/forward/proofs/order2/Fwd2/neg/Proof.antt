@@ -1,7 +1,0 @@
--- Part by part, by the methods of order 1.
-use Rattle.forward.proofs.Parts.{pair}
-use Rattle.forward.proofs.order2.Fwd2.neg.Statement.{statement}
-use Rattle.forward.proofs.order2.Fwd2.neg.Tie as tie
-
-pub neg-spec : {M : Type 1} → statement M
-neg-spec = tie.close (tie.spec (λ _ _. tt) (λ _ _. tt) (λ c. pair c.before.neg.ensures c.neg2.ensures))

@@ -1,8 +1,0 @@
--- By the test, on either way.
-use mathlib.Core.Path.{refl}
-use Rattle.forward.proofs.Parts.{kept, passed}
-use Rattle.forward.proofs.order3.Fwd3.min_val.Statement.{statement}
-use Rattle.forward.proofs.order3.Fwd3.min_val.Tie as tie
-
-pub min-val-spec : {M : Type 1} → statement M
-min-val-spec = tie.close (tie.spec (λ _ _. tt) (λ c. kept _ _ c.before.le.ensures c.if1.true) (λ c. passed _ _ c.before.le.ensures c.if1.false refl))

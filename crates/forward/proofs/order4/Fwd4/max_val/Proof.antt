@@ -1,8 +1,0 @@
--- By the test, on either way.
-use mathlib.Core.Path.{refl}
-use Rattle.forward.proofs.Parts.{kept, passed}
-use Rattle.forward.proofs.order4.Fwd4.max_val.Statement.{statement}
-use Rattle.forward.proofs.order4.Fwd4.max_val.Tie as tie
-
-pub max-val-spec : {M : Type 1} → statement M
-max-val-spec = tie.close (tie.spec (λ _ _. tt) (λ c. kept _ _ c.before.ge.ensures c.if1.true) (λ c. passed _ _ c.before.ge.ensures c.if1.false refl))

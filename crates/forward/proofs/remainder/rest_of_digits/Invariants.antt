@@ -1,0 +1,6 @@
+-- What is left so far is what the number left when it had as many places.
+use Rattle.std.proofs.Common.{◌≡◌, ◌*◌, ◌%◌, ◌^◌, ◌<◌}
+use Rattle.forward.proofs.remainder.rest_of_digits.Given as goal
+
+abbrev pub invariant-loop-i : goal.invariant-loop-i
+invariant-loop-i l = (l.rest ≡ l.m * 2 ^ l.i % l.n) × (l.rest < l.n)

@@ -1,8 +1,0 @@
--- The step of a move, by one lemma for all six.
-use Rattle.tape.specs.Calls.{rewind_to_init}
-use Rattle.tape.proofs.Moves.{move_steps}
-use Rattle.tape.proofs.tape.Tape.rewind_to_init.Statement.{statement}
-use Rattle.tape.proofs.tape.Tape.rewind_to_init.Tie as tie
-
-pub rewind-to-init-spec : {M : Type 1} → statement M
-rewind-to-init-spec = tie.close (tie.spec (λ _ _. tt) (λ c. move_steps rewind_to_init _ _ c.moved_to.ensures))
