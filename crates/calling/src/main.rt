@@ -3,145 +3,106 @@
 #![tactic(auto)]
 
 use dual::passes::backward;
-use dual::{Passed, Read};
+use dual::reading::adjoint;
 use expr::operators::new_leaf;
 use expr::recording::record;
 use expr::{MULTIPLY, Recorded, Supplied};
 use listing::bits_of;
 use std::io;
-use tape::{Handle, Moved, Operand, Refusal, Tape};
+use tape::{Handle, Nodes, NodesMut, Operand, Refusal, Tape};
 
-// A recorded node, as an operand, and the state after it, which the next call takes.
+// Two of the recorded nodes, as operands, and the state after the last of them.
 #[derive(Clone, Copy)]
 struct Noted {
-    node: Operand,
+    leaf: Operand,
+    product: Operand,
     tape: Tape,
 }
 
 fn main(rt: HostRuntime) -> io::Result<()> {
     // Room for three nodes, of two edges each. The arrays may hold anything.
-    let mut values = [0.0; 3];
+    let mut nodes = NodesMut {
+        value: &mut [0.0; 3],
+        serial: &mut [0; 3],
+        count: &mut [0; 3],
+        child: &mut [0; 6],
+        partial: &mut [0.0; 6],
+    };
     let mut adjoints = [0.0; 3];
-    let mut serials = [0u64; 3];
-    let mut counts = [0u8; 3];
-    let mut children = [0u16; 6];
-    let mut partials = [0.0; 6];
-    let value: &mut [f64] = &mut values;
-    let adjoint: &mut [f64] = &mut adjoints;
-    let serial: &mut [u64] = &mut serials;
-    let count: &mut [u8] = &mut counts;
-    let child: &mut [u16] = &mut children;
-    let partial: &mut [f64] = &mut partials;
-    let tape = moved(&rt, Tape::new().start_recording())?;
-    let x = new_leaf(tape, value, adjoint, serial, count, child, partial, 3.0);
-    let x = recorded(&rt, x)?;
-    let y = new_leaf(x.tape, value, adjoint, serial, count, child, partial, 2.0);
-    let y = recorded(&rt, y)?;
-    let left = x.node;
-    let right = y.node;
+    match multiply(&mut nodes, &mut adjoints) {
+        Ok(noted) => ask(&rt, noted, nodes.shared(), &mut adjoints),
+        Err(refusal) => refused(&rt, refusal),
+    }
+}
+
+// Each call takes the state that the last one handed back.
+fn multiply(nodes: &mut NodesMut<'_>, adjoints: &mut [f64]) -> Result<Noted, Refusal> {
+    let tape = Tape::new().start_recording()?;
+    let x = new_leaf(tape, nodes, adjoints, 3.0)?;
+    let y = new_leaf(x.tape, nodes, adjoints, 2.0)?;
+    let leaf = operand(x);
     let product = record(
         y.tape,
-        value,
-        adjoint,
-        serial,
-        count,
-        child,
-        partial,
+        nodes,
+        adjoints,
         MULTIPLY,
-        left,
-        right,
+        leaf,
+        operand(y),
         Supplied::NONE,
-    );
-    let product = recorded(&rt, product)?;
-    let tape = product.tape;
-    let root = product.node;
-    let answer = backward(tape, value, adjoint, serial, count, child, partial, root);
-    passed(&rt, answer)?;
-    let answer = dual::reading::adjoint(tape, value, adjoint, serial, count, child, partial, left);
-    read(&rt, answer)?;
-    let tape = moved(&rt, tape.rewind_to_init())?;
-    read_in_vain(
-        &rt, tape, value, adjoint, serial, count, child, partial, root,
-    )
+    )?;
+    Ok(Noted {
+        leaf,
+        product: operand(product),
+        tape: product.tape,
+    })
+}
+
+// A value that has no node, since the tape was inactive, is used again as a number. The program worked has the same: each
+// example stands by itself.
+fn operand(x: Recorded) -> Operand {
+    x.handle.map_or(Operand::Number(x.value), Operand::Node)
+}
+
+fn ask(rt: &impl Print, noted: Noted, nodes: Nodes<'_>, adjoints: &mut [f64]) -> io::Result<()> {
+    let tape = noted.tape;
+    match backward(tape, nodes, adjoints, noted.product) {
+        Ok(edges) => println!(rt; "edges visited: {edges}")?,
+        Err(refusal) => refused(rt, refusal)?,
+    }
+    show(rt, adjoint(tape, nodes, adjoints, noted.leaf))?;
+    match tape.rewind_to_init() {
+        Ok(tape) => ask_in_vain(rt, tape, nodes, adjoints, noted.product),
+        Err(refusal) => refused(rt, refusal),
+    }
 }
 
 // A handle whose node was dropped, and one that stands where no call has answered one yet.
-fn read_in_vain(
+fn ask_in_vain(
     rt: &impl Print,
     tape: Tape,
-    value: &[f64],
-    adjoint: &[f64],
-    serial: &[u64],
-    count: &[u8],
-    child: &[u16],
-    partial: &[f64],
+    nodes: Nodes<'_>,
+    adjoints: &[f64],
     dropped: Operand,
 ) -> io::Result<()> {
-    let answer = dual::reading::adjoint(
-        tape, value, adjoint, serial, count, child, partial, dropped,
-    );
-    read(rt, answer)?;
+    show(rt, adjoint(tape, nodes, adjoints, dropped))?;
     let none = Operand::Node(Handle::NEVER_LIVE);
-    let answer = dual::reading::adjoint(tape, value, adjoint, serial, count, child, partial, none);
-    read(rt, answer)
-}
-
-// The state is handed back at a refusal too, as it was.
-fn moved(rt: &impl Print, answer: Moved) -> io::Result<Tape> {
-    match answer {
-        Moved::Done(tape) => Ok(tape),
-        Moved::Refused(refusal, tape) => {
-            refused(rt, refusal)?;
-            Ok(tape)
-        }
-    }
-}
-
-fn recorded(rt: &impl Print, answer: Recorded) -> io::Result<Noted> {
-    match answer {
-        Recorded::Node(_, handle, tape) => Ok(node_of(handle, tape)),
-        Recorded::Detached(_, tape) => Ok(node_of(Handle::NEVER_LIVE, tape)),
-        Recorded::Refused(refusal, tape) => {
-            refused(rt, refusal)?;
-            Ok(node_of(Handle::NEVER_LIVE, tape))
-        }
-    }
-}
-
-fn node_of(handle: Handle, tape: Tape) -> Noted {
-    let node = Operand::Node(handle);
-    Noted { node, tape }
-}
-
-fn passed(rt: &impl Print, answer: Passed) -> io::Result<()> {
-    match answer {
-        Passed::Visited(edges) => number(rt, b"edges visited: ", edges as u64),
-        Passed::Refused(refusal) => refused(rt, refusal),
-    }
+    show(rt, adjoint(tape, nodes, adjoints, none))
 }
 
 // A float is shown by its bits, as in a listing.
-fn read(rt: &impl Print, answer: Read) -> io::Result<()> {
+fn show(rt: &impl Print, answer: Result<f64, Refusal>) -> io::Result<()> {
     match answer {
-        Read::Number(x) => println!(rt; "adjoint: {:016x}", bits_of(x)),
-        Read::Refused(refusal) => refused(rt, refusal),
+        Ok(x) => println!(rt; "adjoint: {:016x}", bits_of(x)),
+        Err(refusal) => refused(rt, refusal),
     }
 }
 
+// The library has no Display, which document 01 leaves behind: each program has its own words.
 fn refused(rt: &impl Print, refusal: Refusal) -> io::Result<()> {
-    print!(rt; "refused: {}", refusal.number())?;
-    match refusal {
-        Refusal::Stale => text(rt, b" (stale handle)\n"),
-        Refusal::NeverIssued => text(rt, b" (handle never issued)\n"),
-        _ => text(rt, b"\n"),
-    }
-}
-
-fn number(rt: &impl Print, name: &[u8], x: u64) -> io::Result<()> {
-    text(rt, name)?;
-    println!(rt; "{x}")
-}
-
-fn text(rt: &impl Print, bytes: &[u8]) -> io::Result<()> {
-    rt.write_all(bytes)
+    let kind = match refusal {
+        Refusal::Stale => " (stale handle)",
+        Refusal::NeverIssued => " (handle never issued)",
+        _ => "",
+    };
+    println!(rt; "refused: {}{kind}", refusal.number())
 }

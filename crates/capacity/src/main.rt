@@ -5,18 +5,22 @@
 
 mod filling;
 mod handles;
+mod lent;
 mod powers;
 mod refusals;
 mod report;
 mod session;
 mod slices;
+mod small;
 mod turns;
 
-ghost use Rattle.std.specs.Prelude.{◌≤◌, length};
+ghost use Rattle.std.specs.Prelude.{◌≤◌};
 
 use filling::TOO_MANY;
+use lent::Lent;
+use report::Report;
 use std::io;
-use tape::{MOST_EDGES, MOST_NODES};
+use tape::{MOST_EDGES, MOST_NODES, NodesMut, Tape};
 
 const SLOTS: usize = MOST_EDGES * TOO_MANY;
 
@@ -25,45 +29,38 @@ fn main(rt: HostRuntime) -> io::Result<()> {
     at(&rt, 1)?;
     at(&rt, MOST_NODES)?;
     at(&rt, TOO_MANY)?;
-    refusals::run(&rt)?;
-    handles::run(&rt)?;
-    turns::run(&rt)
+    let report = Report {
+        rt: &rt,
+        capacity: small::N,
+    };
+    refusals::run(&report)?;
+    handles::run(&report)?;
+    turns::run(&report)
 }
 
-// What is run on a tape of capacity n.
+// What is run on a tape of capacity n: one session after another on the same arrays, which may hold anything.
 fn at(rt: &impl Print, n: usize) -> io::Result<()>
     requires { n ≤ TOO_MANY }
 {
     let mut value = [0.0; TOO_MANY];
     let mut adjoint = [0.0; TOO_MANY];
-    let mut serial = [0u64; TOO_MANY];
-    let mut count = [0u8; TOO_MANY];
-    let mut child = [0u16; SLOTS];
+    let mut serial = [0; TOO_MANY];
+    let mut count = [0; TOO_MANY];
+    let mut child = [0; SLOTS];
     let mut partial = [0.0; SLOTS];
     let slots = MOST_EDGES * n;
-    tapes(
-        rt,
-        &mut value[..n],
-        &mut adjoint[..n],
-        &mut serial[..n],
-        &mut count[..n],
-        &mut child[..slots],
-        &mut partial[..slots],
-    )
-}
-
-// One after another on the same arrays, which may hold anything.
-fn tapes(
-    rt: &impl Print,
-    value: &mut [f64],
-    adjoint: &mut [f64],
-    serial: &mut [u64],
-    count: &mut [u8],
-    child: &mut [u16],
-    partial: &mut [f64],
-) -> io::Result<()>
-    requires { length value.old ≤ TOO_MANY }
-{
-    session::run(rt, value, adjoint, serial, count, child, partial)?;
-    slices::run(rt, value, adjoint, serial, count, child, partial)
+    let mut lent = Lent {
+        tape: Tape::new(),
+        nodes: NodesMut {
+            value: &mut value[..n],
+            serial: &mut serial[..n],
+            count: &mut count[..n],
+            child: &mut child[..slots],
+            partial: &mut partial[..slots],
+        },
+        adjoint: &mut adjoint[..n],
+    };
+    let report = Report { rt, capacity: n };
+    session::run(&report, &mut lent)?;
+    slices::run(&report, &mut lent)
 }

@@ -1,13 +1,7 @@
 // A full tape whose nodes have edges: the powers of a number, each the one before it times the first.
-use crate::filling::earlier;
-use crate::report;
-use expr::operators::new_leaf;
-use expr::recording::record;
-use expr::{MULTIPLY, Recorded, Supplied};
-use std::io;
-use tape::{Handle, MOST_NODES, Operand, Tape};
-
-pub const N: usize = MOST_NODES;
+use crate::lent::Lent;
+use expr::{MULTIPLY, Recorded};
+use tape::{Handle, MOST_NODES, Operand, Refusal};
 
 // So near to 1 that its powers stay far from 0, and with so many digits that they are rounded.
 const X: f64 = 0.9999;
@@ -16,100 +10,20 @@ const X: f64 = 0.9999;
 // them, so that a node left out, walked twice or out of order shows.
 #[derive(Clone, Copy)]
 pub struct Powers {
-    pub tape: Tape,
     pub first: Handle,
     pub last: Handle,
 }
 
-pub(crate) fn fill(
-    rt: &impl Print,
-    value: &mut [f64],
-    adjoint: &mut [f64],
-    serial: &mut [u64],
-    count: &mut [u8],
-    child: &mut [u16],
-    partial: &mut [f64],
-) -> io::Result<Powers> {
-    let first = first_power(rt, value, adjoint, serial, count, child, partial)?;
-    Ok(raise(first, value, adjoint, serial, count, child, partial))
-}
-
-fn first_power(
-    rt: &impl Print,
-    value: &mut [f64],
-    adjoint: &mut [f64],
-    serial: &mut [u64],
-    count: &mut [u8],
-    child: &mut [u16],
-    partial: &mut [f64],
-) -> io::Result<Powers> {
-    let tape = report::moved(rt, N, b"start", Tape::new().start_recording())?;
-    let leaf = new_leaf(tape, value, adjoint, serial, count, child, partial, X);
-    Ok(Powers::none(tape).with(leaf))
-}
-
-fn raise(
-    first: Powers,
-    value: &mut [f64],
-    adjoint: &mut [f64],
-    serial: &mut [u64],
-    count: &mut [u8],
-    child: &mut [u16],
-    partial: &mut [f64],
-) -> Powers {
-    let mut powers = first;
-    for _ in 1..N {
-        powers = next_power(powers, value, adjoint, serial, count, child, partial);
+pub(crate) fn fill(lent: &mut Lent<'_>) -> Result<Powers, Refusal> {
+    let first = handle_of(lent.leaf(X)?);
+    let mut last = first;
+    for _ in 1..MOST_NODES {
+        last = handle_of(lent.record(MULTIPLY, Operand::Node(last), Operand::Node(first))?);
     }
-    powers
+    Ok(Powers { first, last })
 }
 
-fn next_power(
-    powers: Powers,
-    value: &mut [f64],
-    adjoint: &mut [f64],
-    serial: &mut [u64],
-    count: &mut [u8],
-    child: &mut [u16],
-    partial: &mut [f64],
-) -> Powers {
-    let tape = powers.tape;
-    let first = powers.first;
-    let last = powers.last;
-    let answer = record(
-        tape,
-        value,
-        adjoint,
-        serial,
-        count,
-        child,
-        partial,
-        MULTIPLY,
-        Operand::Node(last),
-        Operand::Node(first),
-        Supplied::NONE,
-    );
-    powers.with(answer)
-}
-
-impl Powers {
-    fn none(tape: Tape) -> Powers {
-        Powers {
-            tape,
-            first: Handle::NEVER_LIVE,
-            last: Handle::NEVER_LIVE,
-        }
-    }
-
-    fn with(self, answer: Recorded) -> Powers {
-        match answer {
-            Recorded::Node(_, handle, tape) => Powers {
-                tape,
-                first: earlier(self.first, handle),
-                last: handle,
-            },
-            Recorded::Detached(_, tape) => Powers::none(tape),
-            Recorded::Refused(_, tape) => Powers::none(tape),
-        }
-    }
+// Of a power with no node, a handle that the next call refuses.
+fn handle_of(power: Recorded) -> Handle {
+    power.handle.unwrap_or(Handle::NEVER_LIVE)
 }

@@ -1,283 +1,246 @@
-// What is written to standard output: a line an answer, with the state that it hands back.
+// What is written to standard output: a line an answer, with the state that it leaves.
 use crate::filling::Filled;
 use crate::powers::Powers;
 use crate::slices::Cut;
-use dual::{Cleared, Liveness, Passed, Read, Sliced};
+use dual::Sliced;
 use expr::Recorded;
-use listing::{Listed, bits_of};
-use std::io;
-use tape::{Handle, Moved, Refusal, Tape, Walk};
+use listing::bits_of;
+use std::{fmt, io};
+use tape::{Handle, Lookup, Refusal, Tape};
 
-pub(crate) fn moved(
-    rt: &impl Print,
-    capacity: usize,
-    call: &[u8],
-    answer: Moved,
-) -> io::Result<Tape> {
-    begin(rt, capacity, call)?;
-    match answer {
-        Moved::Done(tape) => end(rt, tape),
-        Moved::Refused(refusal, tape) => refused(rt, refusal, tape),
-    }
+// Lines on tapes of one capacity.
+#[derive(Drop)]
+pub struct Report<'a, P> {
+    pub rt: &'a P,
+    pub capacity: usize,
 }
 
-pub(crate) fn recorded(
-    rt: &impl Print,
-    capacity: usize,
-    call: &[u8],
-    answer: Recorded,
-) -> io::Result<Tape> {
-    begin(rt, capacity, call)?;
-    match answer {
-        Recorded::Node(x, handle, tape) => {
-            float(rt, x)?;
-            node(rt, handle)?;
-            end(rt, tape)
+impl<P: Print> Report<'_, P> {
+    // A start, stop, mark or rewind of the tape, and the state after it.
+    pub(crate) fn moved<F: FnOnce(Tape) -> Result<Tape, Refusal>>(
+        &self,
+        call: &str,
+        tape: Tape,
+        step: F,
+    ) -> io::Result<Tape>
+        requires { F.IsAlwaysCallable step }
+    {
+        match step(tape) {
+            Ok(after) => {
+                self.line(call, State(after))?;
+                Ok(after)
+            }
+            Err(refusal) => {
+                self.refused_at(call, refusal, tape)?;
+                Ok(tape)
+            }
         }
-        Recorded::Detached(x, tape) => {
-            float(rt, x)?;
-            text(rt, b" detached")?;
-            end(rt, tape)
+    }
+
+    pub(crate) fn recorded(
+        &self,
+        call: &str,
+        answer: Result<Recorded, Refusal>,
+        after: Tape,
+    ) -> io::Result<()> {
+        let state = State(after);
+        match answer {
+            Ok(
+                Recorded {
+                    value,
+                    handle: Some(handle),
+                    ..
+                },
+            ) => {
+                let bits = bits_of(value);
+                let at = At(handle);
+                self.line(call, format_args!(" value={bits:016x}{at}{state}"))
+            }
+            Ok(Recorded { value, .. }) => {
+                let bits = bits_of(value);
+                self.line(call, format_args!(" value={bits:016x} detached{state}"))
+            }
+            Err(refusal) => self.refused_at(call, refusal, after),
         }
-        Recorded::Refused(refusal, tape) => refused(rt, refusal, tape),
     }
-}
 
-pub(crate) fn sliced(
-    rt: &impl Print,
-    capacity: usize,
-    call: &[u8],
-    answer: Sliced,
-) -> io::Result<Tape> {
-    begin(rt, capacity, call)?;
-    match answer {
-        Sliced::Walked(edges, left, tape) => {
-            number(rt, b" visited=", edges as u64)?;
-            number(rt, b" left=", left as u64)?;
-            end(rt, tape)
+    pub(crate) fn sliced(
+        &self,
+        call: &str,
+        answer: Result<Sliced, Refusal>,
+        after: Tape,
+    ) -> io::Result<()> {
+        let state = State(after);
+        match answer {
+            Ok(Sliced { visited, left, .. }) => {
+                self.line(call, format_args!(" visited={visited} left={left}{state}"))
+            }
+            Err(refusal) => self.refused_at(call, refusal, after),
         }
-        Sliced::Refused(refusal, tape) => refused(rt, refusal, tape),
+    }
+
+    pub(crate) fn passed(&self, call: &str, answer: Result<u32, Refusal>) -> io::Result<()> {
+        match answer {
+            Ok(edges) => self.line(call, format_args!(" visited={edges}")),
+            Err(refusal) => self.refused(call, refusal),
+        }
+    }
+
+    pub(crate) fn cleared(&self, call: &str, answer: Result<(), Refusal>) -> io::Result<()> {
+        match answer {
+            Ok(()) => self.line(call, " done"),
+            Err(refusal) => self.refused(call, refusal),
+        }
+    }
+
+    pub(crate) fn read(&self, call: &str, answer: Result<f64, Refusal>) -> io::Result<()> {
+        match answer {
+            Ok(x) => self.line(call, format_args!(" value={:016x}", bits_of(x))),
+            Err(refusal) => self.refused(call, refusal),
+        }
+    }
+
+    pub(crate) fn listed(&self, call: &str, answer: Result<usize, Refusal>) -> io::Result<()> {
+        match answer {
+            Ok(bytes) => self.line(call, format_args!(" written={bytes}")),
+            Err(refusal) => self.refused(call, refusal),
+        }
+    }
+
+    pub(crate) fn liveness(
+        &self,
+        call: &str,
+        answer: Result<Option<Lookup>, Refusal>,
+    ) -> io::Result<()> {
+        self.line(call, Found(answer))
+    }
+
+    // What a handle is on a tape with this next serial.
+    pub(crate) fn looked_up(
+        &self,
+        handle: Handle,
+        next: u64,
+        answer: Result<Option<Lookup>, Refusal>,
+    ) -> io::Result<()> {
+        let found = Found(answer);
+        self.line("is live", format_args!("{} next={next}{found}", At(handle)))
+    }
+
+    // Whether the state and what was lent to be written are as they were.
+    pub(crate) fn kept(&self, call: &str, same: bool) -> io::Result<()> {
+        let words = if same { " nothing changed" } else { " changed" };
+        self.line(call, words)
+    }
+
+    // Whether the adjoints are those that the pass in one go left.
+    pub(crate) fn compared(&self, call: &str, same: bool) -> io::Result<()> {
+        let words = if same {
+            " every adjoint as in one go"
+        } else {
+            " other adjoints"
+        };
+        self.line(call, words)
+    }
+
+    pub(crate) fn filled(&self, filled: Filled, after: Tape) -> io::Result<()> {
+        // Where no leaf was recorded, the handle that is never live is shown.
+        let first = At(filled.first.unwrap_or(Handle::NEVER_LIVE));
+        let last = At(filled.last.unwrap_or(Handle::NEVER_LIVE));
+        self.line(
+            "leaves",
+            format_args!(
+                " in_order={} first{first} last{last}{}",
+                filled.in_order,
+                State(after)
+            ),
+        )
+    }
+
+    pub(crate) fn last_power(&self, powers: Powers, after: Tape) -> io::Result<()> {
+        let last = At(powers.last);
+        self.line("last power", format_args!("{last}{}", State(after)))
+    }
+
+    // A pass in slices, from its first slice to its last.
+    pub(crate) fn cut(&self, call: &str, cut: Cut, after: Tape) -> io::Result<()> {
+        let state = State(after);
+        self.line(
+            call,
+            format_args!(
+                " slices={} visited={} left={}{state}",
+                cut.slices, cut.edges, cut.left
+            ),
+        )
+    }
+
+    // A call that is refused, and hands back no state.
+    pub(crate) fn refused(&self, call: &str, refusal: Refusal) -> io::Result<()> {
+        self.line(call, Reason(refusal))
+    }
+
+    fn refused_at(&self, call: &str, refusal: Refusal, tape: Tape) -> io::Result<()> {
+        self.line(call, format_args!("{}{}", Reason(refusal), State(tape)))
+    }
+
+    fn line(&self, call: &str, came_to: impl fmt::Display + Drop) -> io::Result<()> {
+        println!(self.rt; "n={} {call}:{came_to}", self.capacity)
     }
 }
 
-pub(crate) fn passed(
-    rt: &impl Print,
-    capacity: usize,
-    call: &[u8],
-    answer: Passed,
-) -> io::Result<()> {
-    begin(rt, capacity, call)?;
-    match answer {
-        Passed::Visited(edges) => number(rt, b" visited=", edges as u64)?,
-        Passed::Refused(refusal) => reason(rt, refusal)?,
-    }
-    text(rt, b"\n")
-}
+#[derive(Clone, Copy)]
+struct State(Tape);
 
-pub(crate) fn cleared(
-    rt: &impl Print,
-    capacity: usize,
-    call: &[u8],
-    answer: Cleared,
-) -> io::Result<()> {
-    begin(rt, capacity, call)?;
-    match answer {
-        Cleared::Done => text(rt, b" done")?,
-        Cleared::Refused(refusal) => reason(rt, refusal)?,
-    }
-    text(rt, b"\n")
-}
-
-pub(crate) fn read(rt: &impl Print, capacity: usize, call: &[u8], answer: Read) -> io::Result<()> {
-    begin(rt, capacity, call)?;
-    match answer {
-        Read::Number(x) => float(rt, x)?,
-        Read::Refused(refusal) => reason(rt, refusal)?,
-    }
-    text(rt, b"\n")
-}
-
-pub(crate) fn liveness(
-    rt: &impl Print,
-    capacity: usize,
-    call: &[u8],
-    answer: Liveness,
-) -> io::Result<()> {
-    begin(rt, capacity, call)?;
-    found(rt, answer)
-}
-
-// What a handle is on a tape with this next serial.
-pub(crate) fn looked_up(
-    rt: &impl Print,
-    capacity: usize,
-    handle: Handle,
-    next: u64,
-    answer: Liveness,
-) -> io::Result<()> {
-    begin(rt, capacity, b"is live")?;
-    node(rt, handle)?;
-    number(rt, b" next=", next)?;
-    found(rt, answer)
-}
-
-pub(crate) fn listed(
-    rt: &impl Print,
-    capacity: usize,
-    call: &[u8],
-    answer: Listed,
-) -> io::Result<()> {
-    begin(rt, capacity, call)?;
-    match answer {
-        Listed::Written(bytes) => number(rt, b" written=", bytes as u64)?,
-        Listed::Refused(refusal) => reason(rt, refusal)?,
-    }
-    text(rt, b"\n")
-}
-
-// Whether the state and what was lent to be written are as they were.
-pub(crate) fn kept(rt: &impl Print, capacity: usize, call: &[u8], same: bool) -> io::Result<()> {
-    either(
-        rt,
-        capacity,
-        call,
-        same,
-        b" nothing changed\n",
-        b" changed\n",
-    )
-}
-
-// Whether the adjoints are those that the pass in one go left.
-pub(crate) fn compared(
-    rt: &impl Print,
-    capacity: usize,
-    call: &[u8],
-    same: bool,
-) -> io::Result<()> {
-    either(
-        rt,
-        capacity,
-        call,
-        same,
-        b" every adjoint as in one go\n",
-        b" other adjoints\n",
-    )
-}
-
-pub(crate) fn filled(rt: &impl Print, capacity: usize, filled: Filled) -> io::Result<()> {
-    begin(rt, capacity, b"leaves")?;
-    number(rt, b" in_order=", filled.in_order as u64)?;
-    text(rt, b" first")?;
-    node(rt, filled.first)?;
-    text(rt, b" last")?;
-    node(rt, filled.last)?;
-    end(rt, filled.tape)?;
-    Ok(())
-}
-
-pub(crate) fn last_power(rt: &impl Print, capacity: usize, powers: Powers) -> io::Result<()> {
-    begin(rt, capacity, b"last power")?;
-    node(rt, powers.last)?;
-    end(rt, powers.tape)?;
-    Ok(())
-}
-
-// A pass in slices, from its first slice to its last.
-pub(crate) fn cut(rt: &impl Print, capacity: usize, call: &[u8], cut: Cut) -> io::Result<()> {
-    begin(rt, capacity, call)?;
-    number(rt, b" slices=", cut.slices)?;
-    number(rt, b" visited=", cut.edges)?;
-    number(rt, b" left=", cut.left as u64)?;
-    end(rt, cut.tape)?;
-    Ok(())
-}
-
-fn begin(rt: &impl Print, capacity: usize, call: &[u8]) -> io::Result<()> {
-    number(rt, b"n=", capacity as u64)?;
-    text(rt, b" ")?;
-    text(rt, call)?;
-    text(rt, b":")
-}
-
-fn either(
-    rt: &impl Print,
-    capacity: usize,
-    call: &[u8],
-    holds: bool,
-    yes: &[u8],
-    no: &[u8],
-) -> io::Result<()> {
-    begin(rt, capacity, call)?;
-    if holds { text(rt, yes) } else { text(rt, no) }
-}
-
-fn found(rt: &impl Print, answer: Liveness) -> io::Result<()> {
-    match answer {
-        Liveness::Live => text(rt, b" live")?,
-        Liveness::Stale => text(rt, b" stale")?,
-        Liveness::NeverIssued => text(rt, b" never issued")?,
-        Liveness::Number => text(rt, b" a number")?,
-        Liveness::Refused(refusal) => reason(rt, refusal)?,
-    }
-    text(rt, b"\n")
-}
-
-fn refused(rt: &impl Print, refusal: Refusal, tape: Tape) -> io::Result<Tape> {
-    reason(rt, refusal)?;
-    end(rt, tape)
-}
-
-fn reason(rt: &impl Print, refusal: Refusal) -> io::Result<()> {
-    number(rt, b" refused=", refusal.number() as u64)?;
-    in_words(rt, refusal)
-}
-
-// Which of the two, where a handle is not live.
-fn in_words(rt: &impl Print, refusal: Refusal) -> io::Result<()> {
-    match refusal {
-        Refusal::Stale => text(rt, b" (stale handle)"),
-        Refusal::NeverIssued => text(rt, b" (handle never issued)"),
-        _ => Ok(()),
-    }
-}
-
-fn end(rt: &impl Print, tape: Tape) -> io::Result<Tape> {
-    number(rt, b" length=", tape.length as u64)?;
-    number(rt, b" mark=", tape.mark as u64)?;
-    number(rt, b" active=", tape.active as u64)?;
-    number(rt, b" next=", tape.next)?;
-    let walk = tape.walk;
-    nodes_left(rt, walk)?;
-    text(rt, b"\n")?;
-    Ok(tape)
-}
-
-// Nothing where no walk is open.
-fn nodes_left(rt: &impl Print, walk: Walk) -> io::Result<()> {
-    match walk {
-        Walk::Closed => Ok(()),
-        Walk::Open(span) => {
-            number(rt, b" open=", span.from as u64)?;
-            number(rt, b"..", span.end as u64)
+impl fmt::Display for State {
+    fn fmt<W: fmt::Write>(&self, f: &mut fmt::Formatter<W>) -> fmt::Result {
+        let tape = self.0;
+        write!(
+            f,
+            " length={} mark={} active={} next={}",
+            tape.length, tape.mark, tape.active as u8, tape.next
+        )?;
+        match tape.walk {
+            Some(span) => write!(f, " open={}..{}", span.from, span.end),
+            None => Ok(()),
         }
     }
 }
 
-fn node(rt: &impl Print, handle: Handle) -> io::Result<()> {
-    number(rt, b" index=", handle.index as u64)?;
-    number(rt, b" serial=", handle.serial)
+#[derive(Clone, Copy)]
+struct At(Handle);
+
+impl fmt::Display for At {
+    fn fmt<W: fmt::Write>(&self, f: &mut fmt::Formatter<W>) -> fmt::Result {
+        write!(f, " index={} serial={}", self.0.index, self.0.serial)
+    }
 }
 
-fn float(rt: &impl Print, x: f64) -> io::Result<()> {
-    text(rt, b" value=")?;
-    print!(rt; "{:016x}", bits_of(x))
+// The refusal's number, and in words which of the two where a handle is not live. The library has no Display, which document
+// 01 leaves behind: each program has its own words.
+#[derive(Clone, Copy)]
+struct Reason(Refusal);
+
+impl fmt::Display for Reason {
+    fn fmt<W: fmt::Write>(&self, f: &mut fmt::Formatter<W>) -> fmt::Result {
+        write!(f, " refused={}", self.0.number())?;
+        f.write_str(match self.0 {
+            Refusal::Stale => " (stale handle)",
+            Refusal::NeverIssued => " (handle never issued)",
+            _ => "",
+        })
+    }
 }
 
-fn number(rt: &impl Print, name: &[u8], x: u64) -> io::Result<()> {
-    text(rt, name)?;
-    print!(rt; "{x}")
-}
+#[derive(Clone, Copy)]
+struct Found(Result<Option<Lookup>, Refusal>);
 
-fn text(rt: &impl Print, bytes: &[u8]) -> io::Result<()> {
-    rt.write_all(bytes)
+impl fmt::Display for Found {
+    fn fmt<W: fmt::Write>(&self, f: &mut fmt::Formatter<W>) -> fmt::Result {
+        match self.0 {
+            Ok(Some(Lookup::Live)) => f.write_str(" live"),
+            Ok(Some(Lookup::Stale)) => f.write_str(" stale"),
+            Ok(Some(Lookup::NeverIssued)) => f.write_str(" never issued"),
+            Ok(None) => f.write_str(" a number"),
+            Err(refusal) => write!(f, "{}", Reason(refusal)),
+        }
+    }
 }

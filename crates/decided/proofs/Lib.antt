@@ -1,6 +1,7 @@
 pub mod Rules
 pub mod Root
 pub mod Forward
+pub mod Aliases
 pub mod Tape
 pub mod Expr
 pub mod Dual

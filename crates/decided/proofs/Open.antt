@@ -1,5 +1,5 @@
 -- A state that does not fit is refused whatever is lent, so a promise of the answer alone is kept whatever is left.
-use Prim.Native.Nat.{ℕ}
+use Prim.Native.Nat.{ℕ, zero, suc}
 use mathlib.Core.Path.{◌≡◌, refl, ap}
 use mathlib.Core.Bool.{false}
 use mathlib.Core.List.{List, [], ◌∷◌}
@@ -17,12 +17,12 @@ use Rattle.tape.specs.Steps.{step}
 use Rattle.tape.specs.declared.errors.Refusal.TheVariants.{Misshapen}
 use Rattle.tape.specs.declared.node.Operand.TheVariants.{Number}
 use Rattle.tape.specs.declared.tape.Tape.{Tape}
-use Rattle.expr.specs.declared.recording.Recorded.TheVariants as recorded
-use Rattle.dual.specs.declared.passes.Passed.TheVariants as passed
-use Rattle.listing.specs.declared.listing.Listed.TheVariants as listed
+use Rattle.std.specs.Prelude.{Err}
+use Rattle.tape.specs.declared.nodes.Nodes.{Nodes}
+use Rattle.tape.specs.declared.nodes.NodesMut.{NodesMut}
 use Rattle.decided.specs.Decided.{Promise, Decided}
 use Rattle.decided.specs.Open.{answer_alone, Open}
-use Rattle.decided.proofs.Expr.{six_arrays}
+use Rattle.decided.proofs.Expr.{lasting}
 use Rattle.decided.proofs.Dual.{adjoints}
 use Rattle.decided.proofs.Listing.{bytes}
 
@@ -34,19 +34,27 @@ left_open T P κs a z ws ws' kept differ d = differ (d.same {κs = κs} {a = a} 
 abbrev unfit : Tape
 unfit = with_next 0 new_tape
 
-abbrev lifetimes : Lfts 6
-lifetimes = ([], ([], ([], ([], ([], ([], tt))))))
+abbrev lifetimes : (n : ℕ) → Lfts n
+lifetimes zero = tt
+lifetimes (suc n) = ([], lifetimes n)
 
--- an array lent to be read, and one lent to be written
-abbrev to_read : {X : Type 0} → List X → Bor (List X)
-to_read xs = record { ref_ptr = (0, 0); now = xs }
+-- what is lent to be read, and what is lent to be written
+abbrev to_read : {X : Type 0} → X → Bor X
+to_read x = record { ref_ptr = (0, 0); now = x }
 
-abbrev to_write : {X : Type 0} → List X → MutBor (List X)
-to_write xs = record { ref_ptr = (0, 0); ghost_name = 0; now = xs }
+abbrev to_write : {X : Type 0} → X → MutBor X
+to_write x = record { ref_ptr = (0, 0); ghost_name = 0; now = x }
 
--- one value and one adjoint, the same
+-- one value and no more, to be read and to be written
+abbrev one_to_read : Float → Nodes
+one_to_read x = record { value = to_read (x ∷ []); serial = to_read []; count = to_read []; child = to_read []; partial = to_read [] }
+
+abbrev one_to_write : Float → NodesMut
+one_to_write x = record { value = to_write (x ∷ []); serial = to_write []; count = to_write []; child = to_write []; partial = to_write [] }
+
+-- one adjoint
 abbrev filled : Float → Arrays floats
-filled x = arrays (x ∷ []) (x ∷ []) [] [] [] []
+filled x = arrays [] (x ∷ []) [] [] [] []
 
 -- tells a NaN from any other
 abbrev rank : Float → ℕ
@@ -60,8 +68,8 @@ zero_not_one e = omega arith
 pub all_open : Open
 unfolding step
 all_open = record {
-  six_arrays = left_open _ _ lifetimes (unfit, (to_write (nan ∷ []), (to_write (nan ∷ []), (to_write [], (to_write [], (to_write [], (to_write [], (0, (Number nan, (Number nan, (record { value = nan; left = nan; right = nan }, tt))))))))))) (recorded.Refused Misshapen unfit) (six_arrays _ (filled nan)) (six_arrays _ (filled (inf false))) refl (λ e. zero_not_one (ap (λ w. rank (get_or w.1.0 0 nan)) e));
-  adjoints = left_open _ _ lifetimes (unfit, (to_read (nan ∷ []), (to_write (nan ∷ []), (to_read [], (to_read [], (to_read [], (to_read [], (Number nan, tt)))))))) (passed.Refused Misshapen) (adjoints _ (machine unfit (filled nan))) (adjoints _ (machine unfit (filled (inf false)))) refl (λ e. zero_not_one (ap (λ w. rank (get_or w.1.1.0 0 nan)) e));
-  bytes = left_open _ _ ([], lifetimes) (unfit, (to_read (nan ∷ []), (to_read (nan ∷ []), (to_read [], (to_read [], (to_read [], (to_read [], (to_write (0 ∷ []), tt)))))))) (listed.Refused Misshapen) (bytes (0 ∷ [])) (bytes (1 ∷ [])) refl (λ e. zero_not_one (ap (λ w. get_or w.1.1.1.1.1.1.1.0 0 0) e));
+  six_arrays = left_open _ _ (lifetimes 3) (unfit, (to_write (one_to_write nan), (to_write (nan ∷ []), (0, (Number nan, (Number nan, (record { value = nan; left = nan; right = nan }, tt))))))) (Err Misshapen) (lasting _ (one_to_write nan, nan ∷ [])) (lasting _ (one_to_write (inf false), nan ∷ [])) (refl, ((refl, refl), (refl, refl), (refl, refl), (refl, refl), (refl, refl))) (λ e. zero_not_one (ap (λ w. rank (get_or w.1.0.value.now 0 nan)) e));
+  adjoints = left_open _ _ (lifetimes 2) (unfit, (one_to_read nan, (to_write (nan ∷ []), (Number nan, tt)))) (Err Misshapen) (adjoints _ (machine unfit (filled nan))) (adjoints _ (machine unfit (filled (inf false)))) refl (λ e. zero_not_one (ap (λ w. rank (get_or w.1.1.0 0 nan)) e));
+  bytes = left_open _ _ (lifetimes 3) (unfit, (one_to_read nan, (to_read (nan ∷ []), (to_write (0 ∷ []), tt)))) (Err Misshapen) (bytes (0 ∷ [])) (bytes (1 ∷ [])) refl (λ e. zero_not_one (ap (λ w. get_or w.1.1.1.0 0 0) e));
   answer = λ d. zero_not_one (ap (λ t. t.next) (d.same {κs = tt} {a = tt} {z = unfit} {z' = new_tape} {ws = tt} {ws' = tt} (new_tape, refl) (new_tape, refl)).0);
 }

@@ -1,6 +1,7 @@
 -- The statements of specs/, each with its proof.
 use Rattle.decided.specs.Root.{Root}
-use Rattle.decided.specs.Forward.{Compared, Order1, Order2, Order3, Order4}
+use Rattle.decided.specs.Aliases.{Aliases}
+use Rattle.decided.specs.Forward.{Floats, Numbers, Operators, Others, Compared}
 use Rattle.decided.specs.Tape.{Tape}
 use Rattle.decided.specs.Expr.{Expr}
 use Rattle.decided.specs.Dual.{Dual}
@@ -15,6 +16,7 @@ use Rattle.decided.specs.WrongSession.{SessionTried}
 use Rattle.decided.specs.WrongText.{TextTried}
 use Rattle.decided.specs.WrongTrack.{TrackTried}
 use Rattle.decided.proofs.Root as of_root
+use Rattle.decided.proofs.Aliases as of_aliases
 use Rattle.decided.proofs.Forward as forward
 use Rattle.decided.proofs.Tape as of_tape
 use Rattle.decided.proofs.Expr as of_expr
@@ -29,20 +31,23 @@ use Rattle.decided.proofs.Wrong as wrong
 root : Root
 root = of_root.root
 
+aliases : Aliases
+aliases = of_aliases.aliases
+
+floats : Floats
+floats = forward.floats
+
+numbers : Numbers
+numbers = forward.numbers
+
+operators : Operators
+operators = forward.operators
+
+others : Others
+others = forward.others
+
 compared : Compared
 compared = forward.compared
-
-order1 : Order1
-order1 = forward.order1
-
-order2 : Order2
-order2 = forward.order2
-
-order3 : Order3
-order3 = forward.order3
-
-order4 : Order4
-order4 = forward.order4
 
 tape : Tape
 tape = of_tape.tape

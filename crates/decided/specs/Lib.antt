@@ -1,11 +1,13 @@
 -- Every promise of the library crates decides the answer and what is left in each lent array. Read `Decided`, then a
 -- list for each crate, in which each public function stands once: tools/promises, which the gate runs, compares these
--- lists with every `pub fn`. `Open` has promises that do not decide.
+-- lists with every public function. `Aliases` says which types of numbers Fwd1 to Fwd4 are of. `Open` has promises that do
+-- not decide.
 -- `Tried` says what it is to try a wrong answer on a promise; `WrongNumbers`, `WrongCalls`, `WrongSession`,
 -- `WrongText` and `WrongTrack` have two or more for each function.
 pub mod Decided
 pub mod Root
 pub mod Forward
+pub mod Aliases
 pub mod Tape
 pub mod Expr
 pub mod Dual

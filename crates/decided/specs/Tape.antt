@@ -3,16 +3,19 @@ use Rattle.decided.specs.Decided.{Decided}
 use Rattle.tape.specs.contracts.errors.Refusal as refusal
 use Rattle.tape.specs.contracts.node.Handle as handle
 use Rattle.tape.specs.contracts.admission.Lengths as lengths
+use Rattle.tape.specs.contracts.nodes.NodesMut as nodes
 use Rattle.tape.specs.contracts.tape.Tape as tape
 use Rattle.tape.proofs.errors.Refusal as told_refusal
 use Rattle.tape.proofs.node.Handle as told_handle
 use Rattle.tape.proofs.admission.Lengths as told_lengths
+use Rattle.tape.proofs.nodes.NodesMut as told_nodes
 use Rattle.tape.proofs.tape.Tape as told_tape
 
 pub record Tape : Type 0 where
   pub number : Decided refusal.number.ended told_refusal.number.Reads.Learnt
   pub lookup : Decided handle.lookup.ended told_handle.lookup.Reads.Learnt
   pub usable : Decided handle.usable.ended told_handle.usable.Reads.Learnt
+  pub shared : Decided nodes.shared.ended told_nodes.shared.Reads.Learnt
   pub lengths_of : Decided lengths.of.ended told_lengths.of.Reads.Learnt
   pub new : Decided tape.new.ended told_tape.new.Reads.Learnt
   pub start_recording : Decided tape.start_recording.ended told_tape.start_recording.Reads.Learnt

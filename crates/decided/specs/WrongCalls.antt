@@ -1,12 +1,12 @@
 -- Wrong answers that the promises of crates `tape`, `expr`, `dual` and `listing` rule out, two or more for each
 -- function, and three wrong programs for every call. `Tried` says what a row is; `CallsTried` is proved in
 -- proofs/Wrong.antt, by computation.
-use Rattle.std.specs.Prelude.{ℕ, ◌≡◌, Bool, true, false, cond, List, [], ◌∷◌, ◌++◌, map, Float, set, take, replicate}
+use Rattle.std.specs.Prelude.{ℕ, ◌≡◌, Bool, true, false, cond, List, [], ◌∷◌, ◌++◌, map, Float, set, take, replicate, Result, Ok, Err, None, Some}
 use Rattle.std.proofs.Math.Option.{Option, none, some}
 use Rattle.std.specs.Float.{nan, binary64}
 use Rattle.std.specs.Float.Ieee.{div, neg as minus, of_bits}
 use Rattle.tape.specs.Numbers.{floats}
-use Rattle.tape.specs.Machine.{Arrays, Machine, arrays, machine, new_tape, with_walk, state, span, walk_left}
+use Rattle.tape.specs.Machine.{Arrays, Machine, arrays, machine, new_tape, Walk, with_walk, state, span, walk_left}
 use Rattle.tape.specs.Handles.{Operand, plain, node, looked_up, counted_as, usable_as}
 use Rattle.tape.specs.Operations.{UNKNOWN, ADD, SUBTRACT, MULTIPLY, DIVIDE, MAX, MIN, NEGATE, SUPPLIED_ONE, SUPPLIED_TWO, SQRT}
 use Rattle.tape.specs.Walk.{Edge}
@@ -18,19 +18,14 @@ use Rattle.tape.specs.Refusals.{last_serial}
 use Rattle.tape.specs.Steps.{step}
 use Rattle.tape.specs.Kept.{fresh, after}
 use Rattle.tape.specs.Rows.{float, sevens, handle, node_at, given, leaf, binary, with_open, four_calls}
+use Rattle.tape.specs.declared.errors.Refusal.{Refusal}
 use Rattle.tape.specs.declared.errors.Refusal.TheVariants.{Misshapen, UnknownOperation, Stale, Detached, Full, SerialsSpent, ListingTooLong, NeverIssued, OutOfTurn, UnfitSlice}
 use Rattle.tape.specs.declared.node.Handle.{Handle}
 use Rattle.tape.specs.declared.node.Lookup.{Lookup}
 use Rattle.tape.specs.declared.node.Lookup.TheVariants as lookup
-use Rattle.tape.specs.declared.node.Usable.{Usable}
-use Rattle.tape.specs.declared.node.Usable.TheVariants as usable
-use Rattle.tape.specs.declared.admission.Admission.{Admission}
-use Rattle.tape.specs.declared.admission.Admission.TheVariants as admission
 use Rattle.tape.specs.declared.admission.Caller.TheVariants as caller
 use Rattle.tape.specs.declared.admission.Lengths.{Lengths}
 use Rattle.tape.specs.declared.tape.Tape.{Tape}
-use Rattle.tape.specs.declared.tape.Walk.{Walk}
-use Rattle.tape.specs.declared.tape.Walk.TheVariants.{Closed, Open}
 use Rattle.expr.specs.Operators.{unused}
 use Rattle.expr.specs.Operators as expr
 use Rattle.listing.specs.Outcome.{listed}
@@ -44,26 +39,23 @@ a_number = tried (λ k. k ∷ [])
 abbrev pub a_lookup : Lookup → Lookup → Tried
 a_lookup = tried (λ l. counted_as l ∷ [])
 
-abbrev pub usable_shown : Usable → List ℕ
-usable_shown usable.Live = 0 ∷ []
-usable_shown (usable.Refused r) = number r ∷ []
+abbrev pub Allowed : Type 0
+Allowed = Result (Unit {0}) Refusal
 
-abbrev pub a_usable : Usable → Usable → Tried
-a_usable = tried usable_shown
+abbrev pub allowed_shown : Allowed → List ℕ
+allowed_shown (Ok tt) = 0 ∷ []
+allowed_shown (Err r) = number r ∷ []
 
-abbrev pub admission_shown : Admission → List ℕ
-admission_shown admission.Granted = 0 ∷ []
-admission_shown (admission.Refused r) = number r ∷ []
-
-abbrev pub an_admission : Admission → Admission → Tried
-an_admission = tried admission_shown
+-- whether a handle is usable, or a call let in
+abbrev pub an_allowed : Allowed → Allowed → Tried
+an_allowed = tried allowed_shown
 
 abbrev pub a_size : Lengths → Lengths → Tried
 a_size = tried (λ n. n.value ∷ n.adjoint ∷ n.serial ∷ n.count ∷ n.child ∷ n.partial ∷ [])
 
 abbrev pub walk_shown : Walk → List ℕ
-walk_shown Closed = []
-walk_shown (Open s) = s.from ∷ s.end ∷ []
+walk_shown None = []
+walk_shown (Some s) = s.from ∷ s.end ∷ []
 
 abbrev pub state_shown : Tape → List ℕ
 state_shown t = t.length ∷ t.mark ∷ cond t.active 1 0 ∷ t.next ∷ walk_shown t.walk
@@ -191,10 +183,10 @@ lookup_tried = a_lookup (looked_up (state 2 0 true 10) (7 ∷ 9 ∷ []) (handle 
 -- usable: a handle past the length taken, whose serial is stored there; a stale one refused 4, or 11; one that was
 -- never issued refused 3
 abbrev pub usable_tried : List Tried
-usable_tried = a_usable (usable_as (state 1 0 true 10) (7 ∷ 9 ∷ []) (handle 1 9)) usable.Live
-    ∷ a_usable (usable_as (state 2 0 true 10) (7 ∷ 9 ∷ []) (handle 1 7)) (usable.Refused Detached)
-    ∷ a_usable (usable_as (state 2 0 true 10) (7 ∷ 9 ∷ []) (handle 1 7)) (usable.Refused NeverIssued)
-    ∷ a_usable (usable_as (state 2 0 true 10) (7 ∷ 9 ∷ []) (handle 1 10)) (usable.Refused Stale) ∷ []
+usable_tried = an_allowed (usable_as (state 1 0 true 10) (7 ∷ 9 ∷ []) (handle 1 9)) (Ok tt)
+    ∷ an_allowed (usable_as (state 2 0 true 10) (7 ∷ 9 ∷ []) (handle 1 7)) (Err Detached)
+    ∷ an_allowed (usable_as (state 2 0 true 10) (7 ∷ 9 ∷ []) (handle 1 7)) (Err NeverIssued)
+    ∷ an_allowed (usable_as (state 2 0 true 10) (7 ∷ 9 ∷ []) (handle 1 10)) (Err Stale) ∷ []
 
 -- Lengths::of: the capacity in place of the adjoints' own length; children counted by the node
 abbrev pub lengths_of_tried : List Tried
@@ -207,13 +199,13 @@ lengths_of_tried =
 abbrev pub new_tried : List Tried
 new_tried = a_state new_tape (state 0 0 true 1)
     ∷ a_state new_tape (state 0 0 false 0)
-    ∷ a_state new_tape (with_walk (Open (span 0 0)) new_tape) ∷ []
+    ∷ a_state new_tape (with_walk (Some (span 0 0)) new_tape) ∷ []
 
 -- start_recording: serials that begin anew; the mark kept; a walk that is open kept; start refused 12 for it
 abbrev pub start_recording_tried : List Tried
 start_recording_tried = a_move start (state 0 0 true 1)
     ∷ a_move start (state 0 1 true 9)
-    ∷ a_step (step (move start) (walking 1 4)) (done, machine (with_walk (Open (span 1 4)) (state 0 0 true 5)) (marked 2).lent)
+    ∷ a_step (step (move start) (walking 1 4)) (done, machine (with_walk (Some (span 1 4)) (state 0 0 true 5)) (marked 2).lent)
     ∷ a_step (step (move start) (walking 1 4)) (refused OutOfTurn, walking 1 4) ∷ []
 
 -- walking: a walk with no node left kept open; another walk kept
@@ -250,15 +242,15 @@ rewind_to_init_tried = a_step (step (move rewind_to_init) (kept 3 1 false)) (don
 -- which it is not lent; while a walk is open a value read let through, and an adjoint read refused; 13 before 12; a
 -- walk of one node refused 1, and one past the length let through; a slice of more nodes than there are refused
 abbrev pub admit_tried : List Tried
-admit_tried = an_admission (admitted (let_in caller.Recording (kept 5 0 true))) admission.Granted
-    ∷ an_admission (admitted (let_in caller.Listing (machine (state 1 0 true 9) longer))) admission.Granted
-    ∷ an_admission (admitted (let_in caller.Move (kept 5 0 true))) (admission.Refused Misshapen)
-    ∷ an_admission (admitted (let_in caller.Value (walking 1 4))) admission.Granted
-    ∷ an_admission (admitted (let_in caller.Adjoint (walking 1 4))) (admission.Refused OutOfTurn)
-    ∷ an_admission (admitted (let_in (caller.Slice 0) (marked 2))) (admission.Refused UnfitSlice)
-    ∷ an_admission (admitted (let_in (caller.Slice 1) (walking 3 4))) (admission.Refused Misshapen)
-    ∷ an_admission (admitted (let_in caller.Start (walking 1 5))) admission.Granted
-    ∷ an_admission (admitted (let_in (caller.Slice 65535) (walking 3 4))) (admission.Refused UnfitSlice) ∷ []
+admit_tried = an_allowed (admitted (let_in caller.Recording (kept 5 0 true))) (Ok tt)
+    ∷ an_allowed (admitted (let_in caller.Listing (machine (state 1 0 true 9) longer))) (Ok tt)
+    ∷ an_allowed (admitted (let_in caller.Move (kept 5 0 true))) (Err Misshapen)
+    ∷ an_allowed (admitted (let_in caller.Value (walking 1 4))) (Ok tt)
+    ∷ an_allowed (admitted (let_in caller.Adjoint (walking 1 4))) (Err OutOfTurn)
+    ∷ an_allowed (admitted (let_in (caller.Slice 0) (marked 2))) (Err UnfitSlice)
+    ∷ an_allowed (admitted (let_in (caller.Slice 1) (walking 3 4))) (Err Misshapen)
+    ∷ an_allowed (admitted (let_in caller.Start (walking 1 5))) (Ok tt)
+    ∷ an_allowed (admitted (let_in (caller.Slice 65535) (walking 3 4))) (Err UnfitSlice) ∷ []
 
 -- ---- wrong answers: expr
 
@@ -425,7 +417,7 @@ open_pass_tried =
     ∷ a_step (step (open_pass propagate_to_mark) (marked 2)) (cut_to 0 2 (8 ∷ 9 ∷ 2 ∷ 1 ∷ 7 ∷ []) (walking 2 4))
     ∷ a_step (step (open_pass (backward (node_at 1))) (marked 2)) (cut_to 0 2 (3 ∷ 3 ∷ 1 ∷ 1 ∷ 7 ∷ []) (walking 0 2))
     ∷ a_step (step (open_pass (backward (node_at 1))) (marked 2)) (cut_to 0 1 (3 ∷ 1 ∷ 1 ∷ 1 ∷ 7 ∷ []) (walking 1 2))
-    ∷ a_step (step (open_pass propagate_mark_to_start) (marked 0)) (cut 0 0, machine (with_walk (Open (span 0 0)) (marked 0).state) (marked 0).lent) ∷ []
+    ∷ a_step (step (open_pass propagate_mark_to_start) (marked 0)) (cut 0 0, machine (with_walk (Some (span 0 0)) (marked 0).state) (marked 0).lent) ∷ []
 
 -- take_slice: one node too far; nodes left counted before it; from the bottom of what is left; more than is left
 -- refused; with none open an empty walk continued

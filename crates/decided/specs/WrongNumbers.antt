@@ -1,14 +1,14 @@
 -- Wrong answers that the promises of crates `root` and `forward` rule out, two or more for each function, at an order
 -- where they show.
 -- `Tried` says what a row is; `NumbersTried` is proved in proofs/Wrong.antt, by computation.
-use Rattle.std.specs.Prelude.{ℕ, ◌≡◌, true, false, List, [], ◌∷◌, ◌++◌, map, Float}
+use Rattle.std.specs.Prelude.{ℕ, ◌≡◌, true, false, List, [], ◌∷◌, ◌++◌, map, Float, Option, Some, None}
 use Rattle.std.specs.Float.{nan, inf, binary64}
 use Rattle.std.specs.Float.Ieee.{of_bits, div, neg, eq, ne, lt, le}
 use Rattle.root.specs.Value.{root}
 use Rattle.forward.specs.Forward.{Fwd, nought, one, constant, variable, value, derivative, sum, difference, product, quotient, negation, sum_plain, difference_plain, plain_difference, product_plain, quotient_plain, plain_quotient, sqrt, remainder, remainder_plain, compared, compared_plain, gt, ge, comparison, abs, max_val, min_val}
 use Rattle.forward.specs.Rows.{float, parts}
-use Rattle.forward.specs.declared.comparison.Ordering.{Ordering}
-use Rattle.forward.specs.declared.comparison.Ordering.TheVariants.{Less, Equal, Greater, NotComparable}
+use Rattle.std.specs.declared.cmp.Ordering.{Ordering}
+use Rattle.std.specs.declared.cmp.Ordering.TheVariants.{Less, Equal, Greater}
 use Rattle.decided.specs.Tried.{Tried, tried, ruled_out, bits, a_bool}
 
 -- ---- how answers are written out
@@ -22,13 +22,13 @@ at_2 = tried (λ x. map bits (parts 2 x))
 abbrev pub a_float : Float → Float → Tried
 a_float = tried (λ x. bits x ∷ [])
 
-abbrev pub rank : Ordering → ℕ
-rank Less = 0
-rank Equal = 1
-rank Greater = 2
-rank NotComparable = 3
+abbrev pub rank : Option Ordering → ℕ
+rank (Some Less) = 0
+rank (Some Equal) = 1
+rank (Some Greater) = 2
+rank None = 3
 
-abbrev pub an_ordering : Ordering → Ordering → Tried
+abbrev pub an_ordering : Option Ordering → Option Ordering → Tried
 an_ordering = tried (λ o. rank o ∷ [])
 
 -- ---- what they are tried on
@@ -212,8 +212,8 @@ ge_tried = a_bool (compared ge 1 x x) false ∷ a_bool (compared ge 1 x (nan, on
 -- partial_cmp: Equal at a NaN; -0.0 below +0.0
 abbrev pub partial_cmp_tried : List Tried
 partial_cmp_tried =
-    an_ordering (compared comparison 1 x (nan, one)) Equal
-    ∷ an_ordering (compared comparison 1 (neg nought, one) (nought, one)) Less ∷ []
+    an_ordering (compared comparison 1 x (nan, one)) (Some Equal)
+    ∷ an_ordering (compared comparison 1 (neg nought, one) (nought, one)) (Some Less) ∷ []
 
 -- eq_f64: k compared with the derivative; two NaNs equal
 abbrev pub eq_f64_tried : List Tried
@@ -242,12 +242,12 @@ ge_f64_tried = a_bool (compared_plain ge 1 x (float 4)) true ∷ a_bool (compare
 -- partial_cmp_f64: Equal at a NaN; the sides exchanged
 abbrev pub partial_cmp_f64_tried : List Tried
 partial_cmp_f64_tried =
-    an_ordering (compared_plain comparison 1 x nan) Equal ∷ an_ordering (compared_plain comparison 1 x (float 2)) Less
+    an_ordering (compared_plain comparison 1 x nan) (Some Equal) ∷ an_ordering (compared_plain comparison 1 x (float 2)) (Some Less)
     ∷ []
 
 -- of: Equal at a NaN; -0.0 below +0.0
 abbrev pub of_tried : List Tried
-of_tried = an_ordering (comparison nan nan) Equal ∷ an_ordering (comparison (neg nought) nought) Less ∷ []
+of_tried = an_ordering (comparison nan nan) (Some Equal) ∷ an_ordering (comparison (neg nought) nought) (Some Less) ∷ []
 
 abbrev pub numbers_tried : List Tried
 numbers_tried =

@@ -1,11 +1,9 @@
 -- Wrong answers that the promises of crate `text` rule out, two or more for each function. `Tried` says what a row is;
 -- `TextTried` is proved in proofs/Text.antt, by computation.
-use Rattle.std.specs.Prelude.{ℕ, ◌≡◌, true, List, [], ◌∷◌, ◌++◌, length, replicate}
+use Rattle.std.specs.Prelude.{ℕ, ◌≡◌, true, Option, Some, None, List, [], ◌∷◌, ◌++◌, length, replicate}
 use Rattle.text.specs.Numerals.{bytes, digits, hex, decimal}
 use Rattle.text.specs.Written.{written}
 use Rattle.text.specs.Parsed as parsed
-use Rattle.text.specs.declared.read.Parsed.{Parsed}
-use Rattle.text.specs.declared.read.Parsed.TheVariants.{Number, NotANumber}
 use Rattle.decided.specs.Tried.{Tried, tried, ruled_out}
 
 -- ---- how answers are written out
@@ -17,11 +15,11 @@ a_written = tried (λ (end, out). end ∷ out)
 abbrev pub a_length : ℕ → ℕ → Tried
 a_length = tried (λ k. k ∷ [])
 
-abbrev pub number_shown : Parsed → List ℕ
-number_shown (Number n) = n ∷ []
-number_shown NotANumber = []
+abbrev pub number_shown : Option ℕ → List ℕ
+number_shown (Some n) = n ∷ []
+number_shown None = []
 
-abbrev pub a_parsed : Parsed → Parsed → Tried
+abbrev pub a_parsed : Option ℕ → Option ℕ → Tried
 a_parsed = tried number_shown
 
 -- ---- the wrong answers
@@ -58,23 +56,23 @@ decimal_length_tried = a_length (length (decimal 0)) 0 ∷ a_length (length (dec
 -- read_hex: digits in upper case read; 15 digits read
 abbrev pub read_hex_tried : List Tried
 read_hex_tried =
-    a_parsed (parsed.read_hex (bytes "3FF0000000000000")) (Number 0x3ff0_0000_0000_0000)
-    ∷ a_parsed (parsed.read_hex (bytes "3ff000000000000")) (Number 0x3ff_0000_0000_0000) ∷ []
+    a_parsed (parsed.read_hex (bytes "3FF0000000000000")) (Some 0x3ff0_0000_0000_0000)
+    ∷ a_parsed (parsed.read_hex (bytes "3ff000000000000")) (Some 0x3ff_0000_0000_0000) ∷ []
 
 -- read_hex_start: the digits taken for the last ones; the seventeenth left away
 abbrev pub read_hex_start_tried : List Tried
 read_hex_start_tried =
-    a_parsed (parsed.read_hex_start (bytes "3ff")) (Number 0x3ff)
-    ∷ a_parsed (parsed.read_hex_start (bytes "3ff00000000000000")) (Number 0x3ff0_0000_0000_0000) ∷ []
+    a_parsed (parsed.read_hex_start (bytes "3ff")) (Some 0x3ff)
+    ∷ a_parsed (parsed.read_hex_start (bytes "3ff00000000000000")) (Some 0x3ff0_0000_0000_0000) ∷ []
 
 -- read_digits: the number that stands before what is no digit; the first digits of too many; 0 where there is none
 abbrev pub read_digits_tried : List Tried
 read_digits_tried =
-    a_parsed (parsed.read_digits 5 (bytes "16a")) (Number 16) ∷ a_parsed (parsed.read_digits 5 (bytes "123456")) (Number 12345) ∷ a_parsed (parsed.read_digits 5 []) (Number 0) ∷ []
+    a_parsed (parsed.read_digits 5 (bytes "16a")) (Some 16) ∷ a_parsed (parsed.read_digits 5 (bytes "123456")) (Some 12345) ∷ a_parsed (parsed.read_digits 5 []) (Some 0) ∷ []
 
 -- read_decimal: a leading zero read; 0 refused
 abbrev pub read_decimal_tried : List Tried
-read_decimal_tried = a_parsed (parsed.read_decimal 5 (bytes "05")) (Number 5) ∷ a_parsed (parsed.read_decimal 5 (bytes "0")) NotANumber ∷ []
+read_decimal_tried = a_parsed (parsed.read_decimal 5 (bytes "05")) (Some 5) ∷ a_parsed (parsed.read_decimal 5 (bytes "0")) None ∷ []
 
 abbrev pub text_tried : List Tried
 text_tried =

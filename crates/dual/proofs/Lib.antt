@@ -3,4 +3,3 @@ pub mod OneToOne
 pub mod Plans
 pub mod Proved
 pub mod Readings
-pub mod Walks

@@ -10,7 +10,5 @@ pub mod reading;
 pub mod slicing;
 mod walking;
 
-pub use clearing::Cleared;
-pub use passes::{Pass, Passed};
-pub use reading::{Liveness, Read};
+pub use passes::Pass;
 pub use slicing::Sliced;

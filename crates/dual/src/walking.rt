@@ -1,46 +1,39 @@
 // The walk: the chain rule over a range of nodes, from the highest down.
 ghost use Rattle.std.specs.Prelude.{◌≡◌, get_or};
 ghost use Rattle.std.specs.Float.{nan};
+ghost use Rattle.tape.specs.Machine.{lent};
 ghost use Rattle.tape.specs.Walk.{push, edges_at};
-ghost use Rattle.dual.specs.Inner.{Walkable, NodeRoom, edge_arrays, walked_back, visits};
+ghost use Rattle.dual.specs.Inner.{Walkable, NodeRoom, walked_back, visits};
 
-use tape::{MOST_EDGES, Span};
+use tape::{MOST_EDGES, Nodes, Span};
 
 // Passes each node's adjoint to its children, and tells how many edges that were.
-pub(crate) fn walk(
-    span: Span,
-    adjoint: &mut [f64],
-    count: &[u8],
-    child: &[u16],
-    partial: &[f64],
-) -> u32
-    requires { Walkable span adjoint.old count.now child.now partial.now }
-    ensures adjoint_after { adjoint.new
-        ≡ walked_back span count.now child.now partial.now adjoint.old }
-    ensures value { result ≡ visits span count.now }
+pub(crate) fn walk(span: Span, nodes: Nodes<'_>, adjoint: &mut [f64]) -> u32
+    requires { Walkable span nodes adjoint.old }
+    ensures adjoint_after { adjoint.new ≡ walked_back span nodes.entry adjoint.old }
+    ensures value { result ≡ visits span nodes.entry }
 {
     let mut visited = 0;
-    let mut i = span.end;
-    while span.from < i {
-        i -= 1;
-        visited += count[i] as u32;
-        push(i, adjoint, count, child, partial);
+    // By index: a node's edges stand at twice it, and the adjoints below it are written; document 01 goes downwards.
+    for i in (span.from..span.end).rev() {
+        visited += nodes.count[i] as u32;
+        push(i, nodes, adjoint);
     }
     visited
 }
 
 // One node: child adjoint = child adjoint + (partial * node adjoint), edge by edge.
-fn push(i: usize, adjoint: &mut [f64], count: &[u8], child: &[u16], partial: &[f64])
-    requires { NodeRoom i adjoint.old count.now child.now partial.now }
+fn push(i: usize, nodes: Nodes<'_>, adjoint: &mut [f64])
+    requires { NodeRoom i nodes adjoint.old }
     ensures { adjoint.new
-        ≡ push (get_or adjoint.old i nan) (edges_at (edge_arrays count.now child.now partial.now) i) adjoint.old }
+        ≡ push (get_or adjoint.old i nan) (edges_at (lent nodes.entry adjoint.old) i) adjoint.old }
 {
     let node_adjoint = adjoint[i];
-    let end = MOST_EDGES * i + count[i] as usize;
-    let mut slot = MOST_EDGES * i;
-    while slot < end {
-        let at = child[slot] as usize;
-        adjoint[at] = adjoint[at] + partial[slot] * node_adjoint;
-        slot += 1;
+    let first = MOST_EDGES * i;
+    let end = first + nodes.count[i] as usize;
+    // By slot: a zip of the two arrays' parts would be no plainer, and the promise speaks of slots.
+    for slot in first..end {
+        let at = nodes.child[slot] as usize;
+        adjoint[at] += nodes.partial[slot] * node_adjoint;
     }
 }

@@ -17,23 +17,19 @@ use Rattle.tape.specs.Operations.{Row, row, rows, as_stored, apply, known, one_s
 use Rattle.tape.specs.Answers.{Answer, refused, detached}
 use Rattle.tape.specs.Walk.{Edge}
 use Rattle.tape.specs.Calls.{edge, edges, operate}
-use Rattle.tape.specs.Admission.{lengths, fits, let_in, when, first}
+use Rattle.tape.specs.Admission.{let_in, when, first}
 use Rattle.tape.specs.Refusals.{first_amiss, last_serial}
 use Rattle.tape.specs.Steps.{unless, step}
 use Rattle.tape.specs.declared.errors.Refusal.{Refusal}
 use Rattle.tape.specs.declared.errors.Refusal.TheVariants.{UnknownOperation, Full, SerialsSpent}
 use Rattle.tape.specs.declared.node.Operand.{Operand}
 use Rattle.tape.specs.declared.node.Operand.TheVariants.{Number, Node}
-use Rattle.tape.specs.declared.node.Usable.{Usable}
-use Rattle.tape.specs.declared.node.Usable.TheVariants as usable
-use Rattle.tape.specs.declared.admission.Admission.TheVariants as admission
 use Rattle.tape.specs.declared.admission.Caller.TheVariants as caller
-use Rattle.tape.proofs.Steps.{granted_shape, is_granted, is_refused}
+use Rattle.std.specs.Prelude.{Result, Ok, Err}
 use Rattle.expr.specs.Outcome.{given}
-use Rattle.expr.specs.Inner.{Decides, recording_refusal, usable_operand, both_usable, refusal_in, operand_value_in, row_for, row_of, row_by, row_refusal, row_value, row_edges, edges_in, appended, recorded_if_room}
-use Rattle.expr.specs.declared.operations.Row as code
+use Rattle.expr.specs.Inner.{usable_operand, allowed, after, operand_value_in, row_for, row_of, row_by, Made, row_made, known_made, decided, node_said, edge_list, appended, recorded_if_room}
+use Rattle.expr.specs.declared.recording.NewNode.{NewNode}
 use Rattle.expr.specs.declared.operations.Supplied.{Supplied}
-use Rattle.expr.specs.declared.recording.Decision.{Decision}
 
 abbrev Outcome : Type 0
 Outcome = Answer floats × Machine floats
@@ -73,8 +69,17 @@ sides op l r g k =
 
 -- ---- operands
 
+abbrev refusal_in : Result (Unit {0}) Refusal → Option Refusal
+refusal_in (Ok u) = none
+refusal_in (Err r) = some r
+
 module _ (M : Machine floats) where
-  abbrev usage : Operand → Usable
+  -- what `decide` answers, carried on
+  abbrev carried_on : Result Made Refusal → Outcome
+  carried_on (Ok m) = recorded_if_room M m.0 m.1
+  carried_on (Err r) = (refused r, M)
+
+  abbrev usage : Operand → Result (Unit {0}) Refusal
   usage o = usable_operand M.state M.lent.serial o
 
   operand_value_so : (o : Operand) → operand_value_in M.lent.value o ≡ operand_value M (operand o)
@@ -85,22 +90,25 @@ module _ (M : Machine floats) where
   no_partial (Number x) = refl
   no_partial (Node h) = refl
 
-  by_life : (b : Bool) (r : Refusal) (o : Option Refusal) → cond b o (some r) ≡ first (refusal_in (cond b usable.Live (usable.Refused r)) ∷ o ∷ [])
-  by_life true r none = refl
-  by_life true r (some q) = refl
-  by_life false r o = refl
+  allowed_so : (u : Result (Unit {0}) Refusal) (m : Made) → carried_on (allowed u m) ≡ unless (refusal_in u) M (recorded_if_room M m.0 m.1)
+  allowed_so (Ok u) m = refl
+  allowed_so (Err r) m = refl
+
+  both_so : (u w : Result (Unit {0}) Refusal) (m : Made) → carried_on (after u (allowed w m)) ≡ unless (refusal_in (after u w)) M (recorded_if_room M m.0 m.1)
+  both_so (Ok u) w m = allowed_so w m
+  both_so (Err r) w m = refl
 
   any_one : (o : Operand) → first_amiss M (handles (operand o ∷ [])) ≡ refusal_in (usage o)
   any_one (Number x) = refl
   any_one (Node h) = alone (live M h) (amiss M.state h) where
-    alone : (b : Bool) (r : Refusal) → cond b none (some r) ≡ refusal_in (cond b usable.Live (usable.Refused r))
+    alone : (b : Bool) (r : Refusal) → cond b none (some r) ≡ refusal_in (cond b (Ok tt) (Err r))
     alone true r = refl
     alone false r = refl
 
-  any_two : (l r : Operand) → first_amiss M (handles (operand l ∷ operand r ∷ [])) ≡ refusal_in (both_usable (usage l) (usage r))
+  any_two : (l r : Operand) → first_amiss M (handles (operand l ∷ operand r ∷ [])) ≡ refusal_in (after (usage l) (usage r))
   any_two (Number x) r = any_one r
   any_two (Node h) r = rw (any_one r) (both (live M h) (amiss M.state h)) where
-    both : (b : Bool) (q : Refusal) → cond b (refusal_in (usage r)) (some q) ≡ refusal_in (both_usable (cond b usable.Live (usable.Refused q)) (usage r))
+    both : (b : Bool) (q : Refusal) → cond b (refusal_in (usage r)) (some q) ≡ refusal_in (after (cond b (Ok tt) (Err q)) (usage r))
     both true q = refl
     both false q = refl
 
@@ -109,13 +117,13 @@ module _ (M : Machine floats) where
   made op l r g = let s = apply op (operand_value M (operand l)) (operand_value M (operand r)) (given g) in recorded_if_room M s.value (edges (operand l) (operand r) s)
 
   -- a row of the table that is known, by its partials
-  row_so : (b : Bool) (l r : Operand) (v : Float) (p q : Option Float) → Side b p q → let s = row_by v p q in
-      unless (row_refusal s (usage l) (usage r)) M (recorded_if_room M (row_value s) (row_edges s l r))
+  row_so : (b : Bool) (l r : Operand) (v : Float) (p q : Option Float) → Side b p q →
+      carried_on (row_made (row_by v p q) (usage l) (usage r) l r)
       ≡ unless (first_amiss M (handles (cond b (operand l ∷ []) (operand l ∷ operand r ∷ [])))) M (recorded_if_room M v (edge (operand l) p ++ edge (operand r) q))
-  row_so true l r v none none f = rw (any_one l, no_partial l, no_partial r)
-  row_so true l r v (some p) none f = rw (any_one l, no_partial r, append-nil (edge (operand l) (some p)))
+  row_so true l r v none none f = rw (any_one l, no_partial l, no_partial r) (allowed_so (usage l) (v, []))
+  row_so true l r v (some p) none f = rw (any_one l, no_partial r, append-nil (edge (operand l) (some p))) (allowed_so (usage l) (v, edge (operand l) (some p)))
   row_so true l r v p (some q) f = absurd f
-  row_so false l r v (some p) (some q) f = rw (any_two l r)
+  row_so false l r v (some p) (some q) f = rw (any_two l r) (both_so (usage l) (usage r) (v, edge (operand l) (some p) ++ edge (operand r) (some q)))
   row_so false l r v none q f = absurd f
   row_so false l r v (some p) none f = absurd f
 
@@ -123,11 +131,11 @@ module _ (M : Machine floats) where
   rule op l r g = unless (when (not (known op)) UnknownOperation) M (unless (first_amiss M (handles (used op (operand l) (operand r)))) M (made op l r g))
 
   abbrev by_values : ℕ → Operand → Operand → Supplied → Float → Float → Outcome
-  by_values op l r g x y = let s = row_of (known op) (apply op x y (given g)) in unless (row_refusal s (usage l) (usage r)) M (recorded_if_room M (row_value s) (row_edges s l r))
+  by_values op l r g x y = carried_on (known_made (row_of (known op) (apply op x y (given g))) (usage l) (usage r) l r)
 
-  rule_so : (op : ℕ) (l r : Operand) (g : Supplied) → let s = row_for M.lent.value op l r g in unless (row_refusal s (usage l) (usage r)) M (recorded_if_room M (row_value s) (row_edges s l r)) ≡ rule op l r g
+  rule_so : (op : ℕ) (l r : Operand) (g : Supplied) → carried_on (known_made (row_for M.lent.value op l r g) (usage l) (usage r) l r) ≡ rule op l r g
   rule_so op l r g = ap (λ x. by_values op l r g x (operand_value_in M.lent.value r)) (operand_value_so l) ∙ ap (by_values op l r g (operand_value M (operand l))) (operand_value_so r) ∙ by_known (known op) refl where
-    by_known : (k : Bool) → known op ≡ k → let s = row_of (known op) (apply op (operand_value M (operand l)) (operand_value M (operand r)) (given g)) in unless (row_refusal s (usage l) (usage r)) M (recorded_if_room M (row_value s) (row_edges s l r)) ≡ rule op l r g
+    by_known : (k : Bool) → known op ≡ k → by_values op l r g (operand_value M (operand l)) (operand_value M (operand r)) ≡ rule op l r g
     by_known true k = let s = apply op (operand_value M (operand l)) (operand_value M (operand r)) (given g) in rw k (row_so (one_sided op) l r s.value s.left s.right (sides op (operand_value M (operand l)) (operand_value M (operand r)) g k))
     by_known false k = rw k
 
@@ -159,47 +167,19 @@ step_so M op l r g e =
     rw e
     (rows_so M (when (not (known op)) UnknownOperation) (first_amiss M (handles (used op (operand l) (operand r)))) s.value (edges (operand l) (operand r) s) M.state.active (eqb M.state.length (capacity M.lent)) (eqb M.state.next last_serial))
 
--- what `decide` answers, carried on
-module _ (M : Machine floats) (op : ℕ) (l r : Operand) (g : Supplied) (x : Decision) (d : let s = row_for M.lent.value op l r g in Decides x (recording_refusal M.state (lengths M.lent) M.lent.serial s l r) s l r) where
-  abbrev found : code.Row
-  found = row_for M.lent.value op l r g
-
-  abbrev why : Option Refusal
-  why = recording_refusal M.state (lengths M.lent) M.lent.serial found l r
-
-  abbrev inner : Option Refusal
-  inner = row_refusal found (usage M l) (usage M r)
-
-  last_row : (o : Option Refusal) (y : Outcome) → unless (first (o ∷ [])) M y ≡ unless o M y
-  last_row none y = refl
-  last_row (some k) y = refl
-
-  turned : (k : Refusal) → let_in caller.Recording M ≡ some k → (refused k, M) ≡ step (operate op (operand l) (operand r) (given g)) M
+-- what `decide` answers, carried on, is the step
+module _ (M : Machine floats) (op : ℕ) (l r : Operand) (g : Supplied) where
+  steps : carried_on M (decided M op l r g) ≡ step (operate op (operand l) (operand r) (given g)) M
   unfolding step
-  turned k e = rw e
-
-  steps : unless why M (recorded_if_room M (row_value found) (row_edges found l r)) ≡ step (operate op (operand l) (operand r) (given g)) M
   steps = by_door (let_in caller.Recording M) refl where
-    by_door : (o : Option Refusal) → let_in caller.Recording M ≡ o → unless why M (recorded_if_room M (row_value found) (row_edges found l r)) ≡ step (operate op (operand l) (operand r) (given g)) M
-    by_door none e = ap (λ o. unless (first (o ∷ inner ∷ [])) M (recorded_if_room M (row_value found) (row_edges found l r))) e ∙ last_row inner _ ∙ rule_so M op l r g ∙ sym (step_so M op l r g e)
-    by_door (some k) e = ap (λ o. unless (first (o ∷ inner ∷ [])) M (recorded_if_room M (row_value found) (row_edges found l r))) e ∙ turned k e
+    by_door : (o : Option Refusal) → let_in caller.Recording M ≡ o → carried_on M (decided M op l r g) ≡ step (operate op (operand l) (operand r) (given g)) M
+    by_door none e = rw (step_so M op l r g e) (rw e (rule_so M op l r g))
+    by_door (some k) e = rw e
 
-  pub refused_by : (k : Refusal) → x.admission ≡ admission.Refused k → (refused k, M) ≡ step (operate op (operand l) (operand r) (given g)) M
-  refused_by k e = ap (λ o. unless o M (recorded_if_room M (row_value found) (row_edges found l r))) (sym (is_refused _ why k d.admission e)) ∙ steps
+  -- as the code has it
+  module _ (x : Result NewNode Refusal) (e : node_said x ≡ decided M op l r g) where
+    pub refused_by : (k : Refusal) → x ≡ Err k → (refused k, M) ≡ step (operate op (operand l) (operand r) (given g)) M
+    refused_by k h = ap (λ x. carried_on M (node_said x)) (sym h) ∙ ap (carried_on M) e ∙ steps
 
-  not_refused : x.admission ≡ admission.Granted → why ≡ none
-  not_refused e = is_granted _ why d.admission e
-
-  pub made_by : x.admission ≡ admission.Granted → recorded_if_room M x.value (edges_in x.edges) ≡ step (operate op (operand l) (operand r) (given g)) M
-  made_by e =
-      let n = not_refused e in
-      ap (λ v. recorded_if_room M v (edges_in x.edges)) (d.value n)
-      ∙ ap (recorded_if_room M (row_value found)) (d.edges n)
-      ∙ ap (λ o. unless o M (recorded_if_room M (row_value found) (row_edges found l r))) (sym n)
-      ∙ steps
-
-  pub shape_by : x.admission ≡ admission.Granted → fits true M ≡ true
-  shape_by e = by_door (let_in caller.Recording M) refl where
-    by_door : (o : Option Refusal) → let_in caller.Recording M ≡ o → fits true M ≡ true
-    by_door none k = granted_shape caller.Recording M k
-    by_door (some q) k = let f : some q ≡ none = sym (ap (λ o. first (o ∷ inner ∷ [])) k) ∙ not_refused e in let z : ◌≡◌ {A = ℕ} 0 1 = cc in absurd (omega arith)
+    pub made_by : (n : NewNode) → x ≡ Ok n → recorded_if_room M n.value (edge_list n.edges) ≡ step (operate op (operand l) (operand r) (given g)) M
+    made_by n h = ap (λ x. carried_on M (node_said x)) (sym h) ∙ ap (carried_on M) e ∙ steps

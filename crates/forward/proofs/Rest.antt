@@ -5,14 +5,13 @@ use Prim.Native.Nat.{ℕ, zero, suc, ◌+◌, ◌-◌, ◌*◌, ◌/◌, ◌%◌
 use native.Mathlib.Nat.{add-mul, pow-suc, pow-succ', pos_of_ne-zero, mul_assoc, mul_comm, mul_right_comm, mul-pos, mul-one, mul-lt-mul_of_pos_right, mul-le-mul_right, lt_of_lt_of_le, mod-eq_of_lt}
 use native.Mathlib.Numerals.{add-one}
 use native.Mathlib.Omega.{arith}
-use mathlib.Core.Bool.{Bool, true, false, ◌&&◌, ◌||◌, cond, true≢false, false≢true}
+use mathlib.Core.Bool.{Bool, true, false, not, ◌&&◌, ◌||◌, cond, true≢false, false≢true}
 use borrow.Author.Tests.{eqb-true, eqb-false, ne_eqb, ltb-true, ltb-false, leb-true, leb-false, lt-leb}
 use lib.Dec.{T, leb, eqb, ltb}
 use lib.Pow.{pow_pos, pow-add, pow_mono, shl_lt, mod-mod-pow}
 use lib.IntN.{ℤ}
-use lib.Ieee.{Float, nan, inf, fin, Format, binary64, prec, low, up, down, odd, units, round, ne, neg, div, rem, fits, of_fields, of_bits, to_bits}
+use lib.Ieee.{Float, nan, inf, fin, Format, binary64, prec, low, up, down, odd, units, round, neg, rem, fits, is_nan, of_fields, of_bits, to_bits}
 use lib.Ieee.Bits.{of_bits-fits, of_bits-to_bits, to_bits-lt}
-use lib.Ieee.Compare.{differs_from_itself, nan_differs}
 use lib.Ieee.Exact.{round_exact}
 use lib.Ieee.Scale.{round_same}
 use lib.Ieee.Fits.{round_is, round-fits, down_pos}
@@ -237,11 +236,14 @@ not_both : {P : Type 0} (a b : Bool) → a && b ≡ false → (a ≡ false → P
 not_both true b e f g = g e
 not_both false b e f g = f refl
 
-pub no_nan_left : (x y : Float) → ne x x || ne y y ≡ false → ne x x ≡ false
-no_nan_left x y e = (neither (ne x x) (ne y y) e).0
+not_nan : (x : Float) → is_nan x ≡ false → T (not (is_nan x))
+not_nan x e = subst (λ b. T (not b)) (sym e) tt
 
-pub no_nan_right : (x y : Float) → ne x x || ne y y ≡ false → ne y y ≡ false
-no_nan_right x y e = (neither (ne x x) (ne y y) e).1
+pub no_nan_left : (x y : Float) → is_nan x || is_nan y ≡ false → T (not (is_nan x))
+no_nan_left x y e = not_nan x (neither (is_nan x) (is_nan y) e).0
+
+pub no_nan_right : (x y : Float) → is_nan x || is_nan y ≡ false → T (not (is_nan y))
+no_nan_right x y e = not_nan y (neither (is_nan x) (is_nan y) e).1
 
 pub finite_size : (a b : ℕ) → leb 0x7ff0_0000_0000_0000 a || eqb b 0 ≡ false → (a < 0x7ff0_0000_0000_0000) × (0 < b)
 finite_size a b e =
@@ -283,9 +285,16 @@ joined_so m e n h k t same = (subst (λ (x : ℕ). Units (of_bits binary64 (e * 
 pub read_own : (x : Float) → T (fits binary64 x) → x ≡ signed (leb 0x8000_0000_0000_0000 (to_bits binary64 x)) (of_bits binary64 (to_bits binary64 x % 0x8000_0000_0000_0000))
 read_own x h = sym (of_bits-to_bits binary64 x h) ∙ read_signed (to_bits binary64 x) (to_bits-lt binary64 x h)
 
-zero_by_zero : div binary64 (of_bits binary64 0) (of_bits binary64 0) ≡ nan
-unfolding div of_bits
-zero_by_zero = refl
+-- f64::NAN
+named_nan : of_bits binary64 0x7ff8_0000_0000_0000 ≡ nan
+unfolding of_bits
+named_nan = refl
+
+only_nan : (x : Float) → is_nan x ≡ true → x ≡ nan
+unfolding is_nan
+only_nan nan e = refl
+only_nan (inf s) e = absurd (false≢true e)
+only_nan (fin s m d) e = absurd (false≢true e)
 
 rem_nan : (x : Float) → rem binary64 x nan ≡ nan
 unfolding rem
@@ -297,12 +306,12 @@ nan_rem : (y : Float) → rem binary64 nan y ≡ nan
 unfolding rem
 nan_rem y = refl
 
-pub of_nan : (x y : Float) → ne x x || ne y y ≡ true → div binary64 (of_bits binary64 0) (of_bits binary64 0) ≡ rem binary64 x y
+pub of_nan : (x y : Float) → is_nan x || is_nan y ≡ true → of_bits binary64 0x7ff8_0000_0000_0000 ≡ rem binary64 x y
 of_nan x y e =
-    zero_by_zero
-    ∙ either (ne x x) (ne y y) e
-    (λ t. sym (ap (λ (w : Float). rem binary64 w y) (differs_from_itself x (subst T (sym t) tt)) ∙ nan_rem y))
-    (λ t. sym (ap (λ (w : Float). rem binary64 x w) (differs_from_itself y (subst T (sym t) tt)) ∙ rem_nan x))
+    named_nan
+    ∙ either (is_nan x) (is_nan y) e
+    (λ t. sym (ap (λ (w : Float). rem binary64 w y) (only_nan x t) ∙ nan_rem y))
+    (λ t. sym (ap (λ (w : Float). rem binary64 x w) (only_nan y t) ∙ rem_nan x))
 
 -- a pattern from infinity's on is an infinity or NaN
 top_of : (a : ℕ) → 0x7ff0_0000_0000_0000 ≤ a → a < 0x8000_0000_0000_0000 → of_bits binary64 a ≡ cond (eqb (a % 0x10_0000_0000_0000) 0) (inf false) nan
@@ -336,12 +345,12 @@ rem_none false (fin s m e) = refl
 
 pub of_no_rest : (x y : Float) → T (fits binary64 x) → T (fits binary64 y)
     → leb 0x7ff0_0000_0000_0000 (to_bits binary64 x % 0x8000_0000_0000_0000) || eqb (to_bits binary64 y % 0x8000_0000_0000_0000) 0 ≡ true
-    → div binary64 (of_bits binary64 0) (of_bits binary64 0) ≡ rem binary64 x y
+    → of_bits binary64 0x7ff8_0000_0000_0000 ≡ rem binary64 x y
 of_no_rest x y h k e =
     let top : ℕ = 0x8000_0000_0000_0000 in
     let a : ℕ = to_bits binary64 x in
     let b : ℕ = to_bits binary64 y in
-    zero_by_zero
+    named_nan
     ∙ either (leb 0x7ff0_0000_0000_0000 (a % top)) (eqb (b % top) 0) e
     (λ t. sym (ap (λ (w : Float). rem binary64 w y) (read_own x h) ∙ rem_top (leb top a) (a % top) y (leb-true _ _ t) (omega arith)))
     (λ t.
@@ -365,12 +374,12 @@ stays true false (fin w m e) n h = refl
 stays false true (fin w m e) n h = refl
 stays false false (fin w m e) n h = refl
 
-unlike_nan : (t : Bool) → ne (signed t nan) (signed t nan) ≡ true
-unfolding neg
-unlike_nan true = nan_differs
-unlike_nan false = nan_differs
+still_nan : (t : Bool) → is_nan (signed t nan) ≡ true
+unfolding neg is_nan
+still_nan true = refl
+still_nan false = refl
 
-pub of_unbounded : (x y : Float) → T (fits binary64 x) → T (fits binary64 y) → ne y y ≡ false → to_bits binary64 x % 0x8000_0000_0000_0000 < 0x7ff0_0000_0000_0000
+pub of_unbounded : (x y : Float) → T (fits binary64 x) → T (fits binary64 y) → T (not (is_nan y)) → to_bits binary64 x % 0x8000_0000_0000_0000 < 0x7ff0_0000_0000_0000
     → 0x7ff0_0000_0000_0000 ≤ to_bits binary64 y % 0x8000_0000_0000_0000 → x ≡ rem binary64 x y
 of_unbounded x y h k own few many =
     let top : ℕ = 0x8000_0000_0000_0000 in
@@ -385,8 +394,7 @@ of_unbounded x y h k own few many =
         ∙ ap (λ (z : Float). rem binary64 x (signed t z)) (sym kind)
         ∙ ap (λ (z : Float). rem binary64 x z) (sym g)
     by_kind s t false u v is e g kind =
-        let is_nan : y ≡ signed t nan = g ∙ ap (signed t) kind in
-        absurd (true≢false (sym (unlike_nan t) ∙ ap (λ (z : Float). ne z z) (sym is_nan) ∙ own))
+        absurd (subst (λ b. T (not b)) (ap is_nan (g ∙ ap (signed t) kind) ∙ still_nan t) own)
 
 pub of_rest : (x y : Float) (r : ℕ) → T (fits binary64 x) → T (fits binary64 y) → Rest (to_bits binary64 x % 0x8000_0000_0000_0000) (to_bits binary64 y % 0x8000_0000_0000_0000) r
     → rem binary64 x y ≡ signed (leb 0x8000_0000_0000_0000 (to_bits binary64 x)) (of_bits binary64 r)

@@ -7,7 +7,7 @@ use lib.Ieee.{Float, fin, add, sub, mul, div, neg, round, of_int, of_bits, to_bi
 use Rattle.root.specs.Value.{root}
 use Rattle.forward.specs.Forward.{Fwd, one, two, constant, variable, quotient, product_plain, sqrt}
 use Rattle.forward.specs.Rows.{P9, P10, P11, P12, Seen, Holds, EveryRow, root_at_four}
-use Rattle.forward.proofs.Parts.{pair}
+use Rattle.forward.proofs.Pair.{pair}
 
 p9 : Holds P9
 unfolding add mul of_int of_bits

@@ -2,12 +2,12 @@
 -- at binary64.
 -- A number of order 0 is a float. One of order n + 1 is a value part and a derivative part, each of order n.
 -- Any two NaNs are one value here (`lib.Ieee` has one `nan`), and every operation is total.
-use Rattle.std.specs.Prelude.{ℕ, zero, suc, Bool, cond, Float}
+use Rattle.std.specs.Prelude.{ℕ, zero, suc, Bool, cond, Float, Option, Some, None}
 use Rattle.std.specs.Float.{nan, binary64}
 use Rattle.std.specs.Float.Ieee.{of_bits, add, sub, mul, div, rem, neg, lt, le, eq}
+use Rattle.std.specs.declared.cmp.Ordering.{Ordering}
+use Rattle.std.specs.declared.cmp.Ordering.TheVariants.{Less, Equal, Greater}
 use Rattle.root.specs.Value.{root}
-use Rattle.forward.specs.declared.comparison.Ordering.{Ordering}
-use Rattle.forward.specs.declared.comparison.Ordering.TheVariants.{Less, Equal, Greater, NotComparable}
 
 abbrev pub Fwd : ℕ → Type 0
 Fwd zero = Float
@@ -130,8 +130,8 @@ gt x y = lt y x
 abbrev pub ge : Float → Float → Bool
 ge x y = le y x
 
-abbrev pub comparison : Float → Float → Ordering
-comparison x y = cond (lt x y) Less (cond (eq x y) Equal (cond (gt x y) Greater NotComparable))
+abbrev pub comparison : Float → Float → Option Ordering
+comparison x y = cond (lt x y) (Some Less) (cond (eq x y) (Some Equal) (cond (gt x y) (Some Greater) None))
 
 -- the number if its value >= 0.0, else its negation
 abbrev pub abs : (n : ℕ) → Fwd n → Fwd n

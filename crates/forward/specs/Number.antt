@@ -1,10 +1,24 @@
 -- The number that each struct of the code holds. Each map is one to one, so a promise about `number2 r` decides r.
-use Rattle.std.specs.Prelude.{◌≡◌}
+use Rattle.std.specs.Prelude.{◌≡◌, Float}
 use Rattle.forward.specs.Forward.{Fwd}
-use Rattle.forward.specs.declared.order1.Fwd1.{Fwd1}
-use Rattle.forward.specs.declared.order2.Fwd2.{Fwd2}
-use Rattle.forward.specs.declared.order3.Fwd3.{Fwd3}
-use Rattle.forward.specs.declared.order4.Fwd4.{Fwd4}
+use Rattle.forward.specs.declared.parts.Fwd as code
+
+-- the number of a struct whose parts hold the numbers of the order below, as `number` says
+abbrev pub of_parts : {T A : Type 0} → (T → A) → code.Fwd T → A × A
+of_parts number x = (number x.val, number x.dot)
+
+-- the structs that the code calls Fwd1, Fwd2, Fwd3 and Fwd4
+abbrev pub Fwd1 : Type 0
+Fwd1 = code.Fwd Float
+
+abbrev pub Fwd2 : Type 0
+Fwd2 = code.Fwd Fwd1
+
+abbrev pub Fwd3 : Type 0
+Fwd3 = code.Fwd Fwd2
+
+abbrev pub Fwd4 : Type 0
+Fwd4 = code.Fwd Fwd3
 
 abbrev pub number1 : Fwd1 → Fwd 1
 number1 x = (x.val, x.dot)

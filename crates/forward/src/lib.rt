@@ -1,19 +1,16 @@
 // Forward numbers: a value with its derivatives, to fourth order. Fwd1 holds two floats, and each higher order two
 // numbers of the order below.
 //
-// Every method takes its numbers by value, asks nothing of them, and promises the rule of specs/Forward.antt at its
-// order.
+// Every call but a comparison takes its numbers by value. Each asks nothing of them, and promises the rule of
+// specs/Forward.antt at its order.
 #![tactic(auto)]
 
-pub mod comparison;
-pub mod order1;
-pub mod order2;
-pub mod order3;
-pub mod order4;
+pub mod comparing;
+pub mod numbers;
+pub mod operators;
+pub mod parts;
+pub mod plain;
 mod remainder;
 
-pub use comparison::Ordering;
-pub use order1::Fwd1;
-pub use order2::Fwd2;
-pub use order3::Fwd3;
-pub use order4::Fwd4;
+pub use numbers::Number;
+pub use parts::{Fwd, Fwd1, Fwd2, Fwd3, Fwd4};

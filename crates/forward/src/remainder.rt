@@ -10,14 +10,14 @@ ghost use Rattle.forward.specs.Inner.{Split, Rest};
 pub(crate) fn remainder(x: f64, y: f64) -> f64
     ensures { result ≡ rem binary64 x y }
 {
-    if (x != x) | (y != y) {
-        return 0.0 / 0.0;
+    if x.is_nan() | y.is_nan() {
+        return f64::NAN;
     }
     let bits = f64::to_bits(x);
     let size = bits % SIGN;
     let divisor = f64::to_bits(y) % SIGN;
     if (INFINITY <= size) | (divisor == 0) {
-        return 0.0 / 0.0;
+        return f64::NAN;
     }
     if INFINITY <= divisor {
         return x;
@@ -35,6 +35,7 @@ const INFINITY: u64 = 0x7ff0_0000_0000_0000;
 // The place above a pattern's 52 digits.
 const PLACE: u64 = 0x10_0000_0000_0000;
 
+// Patterns stand bare: a type for those below +infinity would be made and taken apart in each of three functions.
 // The pattern of what one size leaves when another is taken off as often as it goes.
 fn rest_of(size: u64, divisor: u64) -> u64
     requires { (size < 0x7ff0_0000_0000_0000) × (0 < divisor) × (divisor < 0x7ff0_0000_0000_0000) }
@@ -48,7 +49,8 @@ fn rest_of(size: u64, divisor: u64) -> u64
     joined(rest_of_digits(x.m, y.m, x.e - y.e), y.e)
 }
 
-// A number of units of the least double, m * 2^e, with at most 53 digits in m.
+// A number of units of the least double, m * 2^e, with at most 53 digits in m. Crate root's own of this name counts
+// smaller units, of which each number has 53 digits.
 #[derive(Clone, Copy)]
 struct Scaled {
     m: u64,
@@ -78,7 +80,7 @@ fn rest_of_digits(m: u64, n: u64, places: u64) -> u64
     ensures { (result ≡ m * 2 ^ places % n) × (result < n) }
 {
     let mut rest = m % n;
-    for i in 0..places {
+    for _ in 0..places {
         rest = rest * 2 % n;
     }
     rest
@@ -91,6 +93,7 @@ fn joined(m: u64, e: u64) -> u64
 {
     let mut digits = m;
     let mut exponent = e;
+    // A loop, since 0 has no first digit to count places by.
     while (digits < PLACE) & (0 < exponent) {
         digits *= 2;
         exponent -= 1;

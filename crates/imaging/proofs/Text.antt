@@ -5,7 +5,7 @@ use Rattle.text.specs.Numerals.{digits, decimal}
 use Rattle.text.specs.Written.{written}
 use Rattle.text.specs.Inner.{Wrote}
 use Rattle.text.proofs.Numerals.{length_digits, decimal_short}
-use Rattle.text.proofs.Stores.{wrote, then-written, wrote_both}
+use Rattle.text.proofs.Stores.{then-written, wrote_both}
 use Rattle.imaging.specs.Text.{without, with_decimals}
 
 -- a text that was written at the front, and the place behind it
@@ -17,14 +17,6 @@ in_front {lent} {out} {text} {end} h w =
 with_point : (places n : ℕ) → 0 < places → with_decimals places n ≡ decimal (without places n) ++ (46 ∷ digits 10 places n)
 with_point zero n h = absurd (omega arith)
 with_point (suc k) n h = refl
-
-pub whole_alone : {out : List ℕ} {end : ℕ} (lent : List ℕ) (n places : ℕ) → length lent ≡ 32 → (end, out) ≡ written lent 0 (decimal (without places n)) → places ≡ 0 → (end ≤ 32) × (take end out ≡ with_decimals places n)
-whole_alone lent n places thirty_two a none =
-    let text = decimal (without places n) in
-    let short : length text ≤ length lent = omega (arith, decimal_short (without places n)) in
-    let (within, front) = in_front {lent = lent} short (wrote text (rw zero-add short) a) in
-    let no_point : text ≡ with_decimals places n = rw none in
-    (omega arith, front ∙ no_point)
 
 pub three_parts : {with_whole with_point out : List ℕ} {point decimals end : ℕ} (lent : List ℕ) (n places : ℕ) → length lent ≡ 32 → places ≤ 11
     → (point, with_whole) ≡ written lent 0 (decimal (without places n)) → (decimals, with_point) ≡ written with_whole point (46 ∷ []) → (end, out) ≡ written with_point decimals (digits 10 places n)

@@ -1,4 +1,3 @@
-pub mod Flux
 pub mod Spread
 pub mod Tally
 pub mod Text

@@ -1,23 +1,15 @@
 -- Numbers as text: what is read as a number of ticks, and how a number is written with decimals.
-use Rattle.std.specs.Prelude.{◌≡◌, ℕ, zero, suc, ◌+◌, ◌/◌, Bool, false, cond, List, ◌∷◌, ◌++◌, pos, from_bits, nat_le, Float}
+use Rattle.std.specs.Prelude.{◌≡◌, ℕ, zero, suc, ◌+◌, ◌/◌, Bool, false, cond, Option, Some, None, List, ◌∷◌, ◌++◌, pos, from_bits, nat_le, Float}
 use Rattle.std.specs.Float.{binary64}
 use Rattle.std.specs.Float.Ieee.{add, mul, div, neg, le, lt, to_unsigned, of_int}
 use Rattle.text.specs.Numerals.{bytes, digits, decimal}
 use Rattle.text.specs.Parsed.{read_digits}
-use Rattle.text.specs.declared.read.Parsed.{Parsed}
-use Rattle.text.specs.declared.read.Parsed.TheVariants.{Number, NotANumber}
-use Rattle.imaging.specs.declared.digits.Rounded.{Rounded}
 
 -- ---- read
 
--- the number that was read, and 0 if none was
-abbrev pub or_nought : Parsed → ℕ
-or_nought (Number n) = n
-or_nought NotANumber = 0
-
 -- 1 to 8 digits
-abbrev pub number : List ℕ → ℕ
-number text = or_nought (read_digits 8 text)
+abbrev pub number : List ℕ → Option ℕ
+number text = read_digits 8 text
 
 -- ---- written
 
@@ -42,20 +34,20 @@ abbrev pub parts : Float → ℕ → Float
 parts x places = add binary64 (mul binary64 x (scale places)) (from_bits binary64 0x3fe0_0000_0000_0000)
 
 -- 0 ≤ x, and the parts below 2 ^ 64; that they are above -1, as the kit asks, is tested with it
-abbrev pub rounded : Float → ℕ → Rounded
+abbrev pub rounded : Float → ℕ → Option ℕ
 rounded x places =
     cond (le (from_bits binary64 0) x)
     (cond (lt (neg (from_bits binary64 0x3ff0_0000_0000_0000)) (parts x places))
-    (cond (lt (parts x places) (from_bits binary64 0x43f0_0000_0000_0000)) (Rounded.To (to_unsigned 64 (parts x places))) Rounded.OutOfRange)
-    Rounded.OutOfRange)
-    Rounded.OutOfRange
+    (cond (lt (parts x places) (from_bits binary64 0x43f0_0000_0000_0000)) (Some (to_unsigned 64 (parts x places))) None)
+    None)
+    None
 
 -- ---- a standard error
 
 -- two digits, or more
-abbrev pub two_digits : Rounded → Bool
-two_digits (Rounded.To n) = nat_le 10 n
-two_digits Rounded.OutOfRange = false
+abbrev pub two_digits : Option ℕ → Bool
+two_digits (Some n) = nat_le 10 n
+two_digits None = false
 
 -- of `left` numbers of decimals, from `places` on, the first with which x shows two digits; 3 if none does
 abbrev pub first_with_two : Float → ℕ → ℕ → ℕ
@@ -75,20 +67,20 @@ abbrev pub fraction : ℕ → ℕ → Float
 fraction m n = div binary64 (float m) (float n)
 
 pub record Rows : Type 0 where
-  pub ticks : number (bytes "160") ≡ 160
-  pub leading_zeros : number (bytes "00000160") ≡ 160
-  pub nine_digits : number (bytes "123456789") ≡ 0
-  pub no_digit : number (bytes "") ≡ 0
-  pub a_sign : number (bytes "-160") ≡ 0
-  pub a_space : number (bytes "160 ") ≡ 0
+  pub ticks : number (bytes "160") ≡ Some 160
+  pub leading_zeros : number (bytes "00000160") ≡ Some 160
+  pub nine_digits : number (bytes "123456789") ≡ None
+  pub no_digit : number (bytes "") ≡ None
+  pub a_sign : number (bytes "-160") ≡ None
+  pub a_space : number (bytes "160 ") ≡ None
   pub rpm : with_decimals 3 297600 ≡ bytes "297.600"
   pub square_cells : with_decimals 9 3253263 ≡ bytes "0.003253263"
   pub no_decimals : with_decimals 0 2010 ≡ bytes "2010"
   pub billion : scale 9 ≡ float 1000000000
   -- 0.0005 and 0.0625 in thousandths
-  pub half_up : rounded (from_bits binary64 0x3f40_624d_d2f1_a9fc) 3 ≡ Rounded.To 1
-  pub sixteenth : rounded (from_bits binary64 0x3fb0_0000_0000_0000) 3 ≡ Rounded.To 63
-  pub negative : rounded (from_bits binary64 0xbfb0_0000_0000_0000) 3 ≡ Rounded.OutOfRange
+  pub half_up : rounded (from_bits binary64 0x3f40_624d_d2f1_a9fc) 3 ≡ Some 1
+  pub sixteenth : rounded (from_bits binary64 0x3fb0_0000_0000_0000) 3 ≡ Some 63
+  pub negative : rounded (from_bits binary64 0xbfb0_0000_0000_0000) 3 ≡ None
   -- 1.2; 0.16; 0.0996, which is 0.10; 0.0012; 12; 9.96, which is 10; 345
   pub one_decimal : error_places (fraction 12 10) ≡ 1
   pub two_decimals : error_places (fraction 16 100) ≡ 2

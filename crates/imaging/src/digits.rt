@@ -2,43 +2,30 @@
 ghost use Rattle.std.specs.Prelude.{◌≡◌, ◌≤◌, length, take};
 ghost use Rattle.imaging.specs.Text.{number, without, with_decimals, scale, rounded, two_digits, error_places};
 
-use text::Parsed;
-
 const MOST_DIGITS: usize = 8;
 
-// The number that 1 to 8 digits make. It is 0 where the text is anything else, and 0 ticks are none.
-pub(crate) fn read_number(text: &[u8]) -> u32
+// The number that 1 to 8 digits make.
+pub(crate) fn read_number(text: &[u8]) -> Option<u32>
     ensures { result ≡ number text.now }
 {
-    match text::read_digits(text, MOST_DIGITS) {
-        Parsed::Number(n) => n as u32,
-        Parsed::NotANumber => 0,
-    }
+    let n = text::read_digits(text, MOST_DIGITS)?;
+    Some(n as u32)
 }
 
 // The whole digits of 64 bits, a point, and up to eleven decimals.
 pub const WIDTH: usize = 32;
 
-#[derive(Clone, Copy)]
-pub enum Rounded {
-    To(u64),
-    OutOfRange,
-}
-
-// x with so many decimals, in units of the last of them, a half up. What is negative or too large for 64 bits is out of
-// range, and so is NaN.
-pub(crate) fn round(x: f64, places: usize) -> Rounded
+// x with so many decimals, in units of the last of them, a half up. `None` where x is negative or too large for 64 bits,
+// or NaN. The formatter's own rounding is another.
+pub(crate) fn round(x: f64, places: usize) -> Option<u64>
     ensures { result ≡ rounded x places }
 {
     let parts = x * scale(places) + 0.5;
-    if x >= 0.0 {
-        if parts > -1.0 {
-            if parts < 18_446_744_073_709_551_616.0 {
-                return Rounded::To(std::num::truncating_f64_to_u64(parts));
-            }
-        }
+    if x >= 0.0 && parts > -1.0 && parts < 18_446_744_073_709_551_616.0 {
+        Some(std::num::truncating_f64_to_u64(parts))
+    } else {
+        None
     }
-    Rounded::OutOfRange
 }
 
 // How many parts make one.
@@ -69,8 +56,8 @@ fn shows_two_digits(x: f64, places: usize) -> bool
     ensures { result ≡ two_digits (rounded x places) }
 {
     match round(x, places) {
-        Rounded::To(n) => n >= 10,
-        Rounded::OutOfRange => false,
+        Some(n) => n >= 10,
+        None => false,
     }
 }
 
@@ -92,9 +79,7 @@ fn without(n: u64, places: usize) -> u64
     ensures { result ≡ without places n }
 {
     let mut rest = n;
-    let mut left = places;
-    while 0 < left {
-        left -= 1;
+    for _ in 0..places {
         rest /= 10;
     }
     rest

@@ -1,28 +1,23 @@
 // The turns that a file holds, and whether they are in order. A reader hands them over one by one, an index time with
 // `begin_revolution` and then each interval with `add_interval`. The intervals of all turns go into one lent slice, one
 // after another, in ticks of 25 ns.
-ghost use Rattle.std.specs.Prelude.{◌≤◌};
-ghost use Rattle.imaging.specs.Flux.{Within};
+ghost use Rattle.std.specs.Prelude.{◌<◌, length};
 
-pub const MOST_REVOLUTIONS: usize = 64;
+use arrayvec::ArrayVec;
+use std::fmt;
 
-pub const ENDS: usize = MOST_REVOLUTIONS + 1;
+const MOST_REVOLUTIONS: usize = 64;
 
-pub const MOST_IN_REVOLUTION: usize = 131_072;
+const MOST_IN_REVOLUTION: usize = 131_072;
 
 pub const MOST_INTERVALS: usize = 524_288;
 
 // A turn at 300 rpm, less a tenth and more a tenth.
-pub const SHORTEST_TURN: u32 = 7_200_000;
+const SHORTEST_TURN: u32 = 7_200_000;
 
-pub const LONGEST_TURN: u32 = 8_800_000;
+const LONGEST_TURN: u32 = 8_800_000;
 
-// The time of each revolution, from its index pulse to the next.
-pub type Times = [u32; MOST_REVOLUTIONS];
-
-// How many intervals have passed before the first revolution, which is none, and after each.
-pub type Ends = [usize; ENDS];
-
+// Why a file was not read to its end.
 #[derive(Clone, Copy)]
 pub enum Fault {
     // The file itself.
@@ -33,7 +28,7 @@ pub enum Fault {
     Circle,
     Device,
     Unreadable,
-    // What it begins with.
+    // What it begins with, or what it is made of.
     Scp,
     Kryoflux,
     Hfe,
@@ -41,8 +36,15 @@ pub enum Fault {
     Applesauce,
     FluxEngine,
     NotText,
-    // A line.
     Empty,
+    // An entry, which is a line in a text, from 1 on.
+    Line(usize, Wrong),
+}
+
+// What is wrong with an entry.
+#[derive(Clone, Copy)]
+pub enum Wrong {
+    // The line.
     ByteOrderMark,
     EmptyLine,
     CarriageReturn,
@@ -58,176 +60,188 @@ pub enum Fault {
     ManyRevolutions,
 }
 
-// How far a file was read. An entry is an interval or begins a revolution, so that both together count the entries.
+// What was read so far.
+#[derive(Drop)]
+pub struct Reading<'a> {
+    // The time of each revolution, from its index pulse to the next, and how many intervals passed before it: two lists,
+    // since the median is taken of the times alone.
+    times: ArrayVec<u32, MOST_REVOLUTIONS>,
+    starts: ArrayVec<usize, MOST_REVOLUTIONS>,
+    // All intervals so far, in the first places of a lent slice: an ArrayVec of so many is moved when it is made, and runs
+    // out of stack.
+    ticks: &'a mut [u32],
+    intervals: usize,
+    // The intervals of the last revolution, and their time together.
+    latest: usize,
+    spent: u64,
+}
+
+// What was read: the time of each turn, how many intervals passed before it, all intervals, and the median of the times.
 #[derive(Clone, Copy)]
-pub struct Reading {
-    pub revolutions: usize,
-    pub intervals: usize,
-    // The intervals of the last revolution, their time together, and its index time.
-    pub latest: usize,
-    pub spent: u64,
-    pub time: u32,
-    pub fault: Fault,
-    // The entry that is at fault, which is its line in a text, or 0 where none is.
-    pub fault_line: usize,
+pub struct Turns<'a> {
+    pub times: &'a [u32],
+    pub starts: &'a [usize],
+    pub ticks: &'a [u32],
+    pub median: u32,
 }
 
-pub(crate) fn begin_revolution(
-    before: Reading,
-    time: u32,
-    times: &mut Times,
-    ends: &mut Ends,
-) -> Reading
-    requires { Within before }
-    ensures { Within result }
-{
-    let revolutions = before.revolutions;
-    if revolutions > 0 {
-        if before.latest == 0 {
-            return before.last_line(Fault::NoInterval);
-        }
-    }
-    if revolutions >= MOST_REVOLUTIONS {
-        return before.this_line(Fault::ManyRevolutions);
-    }
-    if time < SHORTEST_TURN {
-        return before.this_line(Fault::WrongSpeed);
-    }
-    if time > LONGEST_TURN {
-        return before.this_line(Fault::WrongSpeed);
-    }
-    times[revolutions] = time;
-    ends[revolutions + 1] = before.intervals;
-    let mut after = before;
-    after.revolutions = revolutions + 1;
-    after.latest = 0;
-    after.spent = 0;
-    after.time = time;
-    after
-}
-
-pub(crate) fn add_interval(
-    before: Reading,
-    ticks_of_it: u32,
-    ends: &mut Ends,
-    ticks: &mut [u32],
-) -> Reading
-    requires { Within before }
-    ensures { Within result }
-{
-    let revolutions = before.revolutions;
-    let intervals = before.intervals;
-    if revolutions == 0 {
-        return before.this_line(Fault::Early);
-    }
-    if before.spent > before.time as u64 {
-        return before.this_line(Fault::PastIndex);
-    }
-    if before.latest >= MOST_IN_REVOLUTION {
-        return before.this_line(Fault::LongRevolution);
-    }
-    if intervals >= ticks.len() {
-        return before.this_line(Fault::LongFile);
-    }
-    ticks[intervals] = ticks_of_it;
-    ends[revolutions] = intervals + 1;
-    let mut after = before;
-    after.intervals = intervals + 1;
-    after.latest = before.latest + 1;
-    after.spent = before.spent + ticks_of_it as u64;
-    after
-}
-
-// The intervals of turn i. That the ends lie in order within the ticks is asked again, in place of a proof.
-pub(crate) fn of_turn<'a, 'b>(i: usize, ends: &'b Ends, ticks: &'a [u32]) -> &'a [u32]
-    requires { i ≤ 63 }
-{
-    let end = least(ends[i + 1], ticks.len());
-    let from = least(ends[i], end);
-    &ticks[from..end]
-}
-
-// The intervals of all turns.
-pub(crate) fn of_all<'a>(reading: Reading, ticks: &'a [u32]) -> &'a [u32] {
-    let read = least(reading.intervals, ticks.len());
-    &ticks[..read]
-}
-
-// The index times of all turns.
-pub(crate) fn index_times<'a>(reading: Reading, times: &'a [u32]) -> &'a [u32] {
-    let read = least(reading.revolutions, times.len());
-    &times[..read]
-}
-
-pub(crate) fn median(reading: Reading, times: &[u32]) -> u32 {
-    track::median(index_times(reading, times))
-}
-
-pub(crate) fn least(a: usize, b: usize) -> usize
-    ensures { (result ≤ a) × (result ≤ b) }
-{
-    if a < b { a } else { b }
-}
-
-impl Reading {
-    pub(crate) fn new() -> Reading
-        ensures { Within result }
-    {
+impl<'a> Reading<'a> {
+    pub(crate) fn new(ticks: &'a mut [u32]) -> Reading<'a> {
         Reading {
-            revolutions: 0,
+            times: ArrayVec::new(),
+            starts: ArrayVec::new(),
+            ticks,
             intervals: 0,
             latest: 0,
             spent: 0,
-            time: 0,
-            fault: Fault::Empty,
-            fault_line: 0,
         }
+    }
+
+    pub(crate) fn begin_revolution(&mut self, time: u32) -> Result<(), Fault> {
+        if !self.times.is_empty() && self.latest == 0 {
+            return Err(self.at_last(Wrong::NoInterval));
+        }
+        // Both are as long. Each is asked, in place of a proof.
+        if self.times.is_full() || self.starts.is_full() {
+            return Err(self.at_this(Wrong::ManyRevolutions));
+        }
+        if time < SHORTEST_TURN || LONGEST_TURN < time {
+            return Err(self.at_this(Wrong::WrongSpeed));
+        }
+        let passed = self.intervals;
+        self.times.push(time);
+        self.starts.push(passed);
+        self.latest = 0;
+        self.spent = 0;
+        Ok(())
+    }
+
+    pub(crate) fn add_interval(&mut self, time: u32) -> Result<(), Fault> {
+        let Some(turn) = self.times.last() else {
+            return Err(self.at_this(Wrong::Early));
+        };
+        if self.spent > *turn as u64 {
+            return Err(self.at_this(Wrong::PastIndex));
+        }
+        if self.latest >= MOST_IN_REVOLUTION {
+            return Err(self.at_this(Wrong::LongRevolution));
+        }
+        let at = self.intervals;
+        if at >= self.ticks.len() {
+            return Err(self.at_this(Wrong::LongFile));
+        }
+        self.ticks[at] = time;
+        self.intervals = at + 1;
+        self.latest += 1;
+        self.spent += time as u64;
+        Ok(())
     }
 
     // At the end of the file: whether anything was in it, and in its last revolution.
-    pub(crate) fn ended(self) -> Reading
-        requires { Within self }
-        ensures { Within result }
-    {
-        if self.fault_line > 0 {
-            return self;
-        }
-        if self.revolutions == 0 {
-            return self.this_line(Fault::Empty);
+    pub(crate) fn end(&self) -> Result<(), Fault> {
+        if self.times.is_empty() {
+            return Err(Fault::Empty);
         }
         if self.latest == 0 {
-            return self.last_line(Fault::NoInterval);
+            return Err(self.at_last(Wrong::NoInterval));
         }
-        self
+        Ok(())
     }
 
-    // Every entry before this one is counted.
-    pub(crate) fn this_line(self, fault: Fault) -> Reading
-        requires { Within self }
-        ensures { Within result }
-    {
-        self.faulty(fault, self.revolutions + self.intervals + 1)
+    pub(crate) fn is_empty(&self) -> bool {
+        self.entries() == 0
     }
 
-    fn last_line(self, fault: Fault) -> Reading
-        requires { Within self }
-        ensures { Within result }
-    {
-        self.faulty(fault, self.revolutions + self.intervals)
+    // That the entry behind the last is wrong.
+    pub(crate) fn at_this(&self, wrong: Wrong) -> Fault {
+        Fault::Line(self.entries().saturating_add(1), wrong)
     }
 
-    pub(crate) fn faulty(self, fault: Fault, line: usize) -> Reading
-        requires { Within self }
-        ensures { Within result }
+    fn at_last(&self, wrong: Wrong) -> Fault {
+        Fault::Line(self.entries(), wrong)
+    }
+
+    // An entry is an interval or begins a revolution. No count comes near the largest number.
+    fn entries(&self) -> usize {
+        self.intervals.saturating_add(self.times.len())
+    }
+
+    pub(crate) fn turns(&self) -> Turns<'_> {
+        let times = self.times.as_slice();
+        let all: &[u32] = self.ticks;
+        Turns {
+            times,
+            starts: self.starts.as_slice(),
+            ticks: all.get(..self.intervals).unwrap_or(all),
+            median: track::median(times),
+        }
+    }
+}
+
+impl<'a> Turns<'a> {
+    // The intervals of turn i. That the turns lie in order within the ticks is asked again, in place of a proof.
+    pub(crate) fn ticks_of(self, i: usize) -> &'a [u32]
+        requires { i < length self.times.now }
     {
-        Reading {
-            revolutions: self.revolutions,
-            intervals: self.intervals,
-            latest: self.latest,
-            spent: self.spent,
-            time: self.time,
-            fault,
-            fault_line: line,
+        let from = self.start(i);
+        let end = self.start(i + 1);
+        self.ticks.get(from..end).unwrap_or(&[])
+    }
+
+    fn start(self, i: usize) -> usize {
+        self.starts.get(i).copied().unwrap_or(self.ticks.len())
+    }
+}
+
+impl fmt::Display for Fault {
+    fn fmt<W: fmt::Write>(&self, f: &mut fmt::Formatter<W>) -> fmt::Result {
+        match self {
+            Fault::Missing => write!(f, "no such file"),
+            Fault::Denied => write!(f, "may not be read"),
+            Fault::Folder => write!(f, "a folder"),
+            Fault::LongName => write!(f, "a name longer than any file's"),
+            Fault::Circle => write!(f, "a link that leads in a circle"),
+            Fault::Device => write!(f, "the device failed"),
+            Fault::Unreadable => write!(f, "cannot be read"),
+            Fault::Scp => write!(f, "not text: an SCP dump"),
+            Fault::Kryoflux => write!(f, "not text: a KryoFlux stream"),
+            Fault::Hfe => write!(f, "not text: an HFE image"),
+            Fault::Ipf => write!(f, "not text: an IPF image"),
+            Fault::Applesauce => write!(f, "not text: an Applesauce image"),
+            Fault::FluxEngine => write!(f, "not text: a FluxEngine capture"),
+            Fault::NotText => write!(f, "not text: a byte that no text has"),
+            Fault::Empty => write!(f, "the file is empty"),
+            Fault::Line(line, wrong) => write!(f, "line {line}: {wrong}"),
+        }
+    }
+}
+
+impl fmt::Display for Wrong {
+    fn fmt<W: fmt::Write>(&self, f: &mut fmt::Formatter<W>) -> fmt::Result {
+        match self {
+            Wrong::ByteOrderMark => write!(f, "a byte order mark: save as plain text, without one"),
+            Wrong::EmptyLine => write!(f, "an empty line"),
+            Wrong::CarriageReturn => write!(f, "a carriage return: save with line feeds alone"),
+            Wrong::Space => write!(f, "a space or a tab where none belongs"),
+            Wrong::NoNumber => write!(
+                f,
+                "neither a whole number of ticks, 1 to 99999999, nor 'revolution N'"
+            ),
+            Wrong::Early => write!(f, "an interval before the first 'revolution N'"),
+            Wrong::NoInterval => write!(f, "a revolution with no interval"),
+            Wrong::WrongSpeed => write!(
+                f,
+                "not a 300 rpm drive, whose revolution takes {SHORTEST_TURN} to {LONGEST_TURN} ticks"
+            ),
+            Wrong::PastIndex => write!(f, "an interval that begins after the next index pulse"),
+            Wrong::LongRevolution => write!(
+                f,
+                "more than {MOST_IN_REVOLUTION} intervals in a revolution"
+            ),
+            Wrong::LongFile => write!(f, "more than {MOST_INTERVALS} intervals in a file"),
+            Wrong::ManyRevolutions => {
+                write!(f, "more than {MOST_REVOLUTIONS} revolutions in a file")
+            }
         }
     }
 }

@@ -1,270 +1,152 @@
 // The reader of texts: bytes are cut into lines, and a line begins a revolution or is an interval.
-ghost use Rattle.std.specs.Prelude.{◌≡◌, ◌≤◌, length};
-ghost use Rattle.imaging.specs.Flux.{Within};
-
-use crate::flux::{Ends, Fault, Reading, Times};
-use crate::{digits, flux};
+use crate::digits;
+use crate::flux::{Fault, Reading, Wrong};
+use arrayvec::ArrayVec;
 
 // The bytes of `revolution 99999999`: no longer line means anything.
-pub const LONGEST: usize = 19;
+const LONGEST: usize = 19;
 
-// What was read, and how many bytes of a line stand unfinished.
-#[derive(Clone, Copy)]
-pub struct Progress {
-    pub reading: Reading,
-    pub pending: usize,
+// What a line begins with that begins a revolution.
+const WORD: &[u8] = b"revolution ";
+
+// The bytes of a line that stands unfinished.
+#[derive(Drop)]
+pub struct Lines {
+    line: ArrayVec<u8, LONGEST>,
 }
 
 // What a line says.
 #[derive(Clone, Copy)]
-pub enum Entry {
+enum Entry {
     Revolution(u32),
     Interval(u32),
-    Neither,
 }
 
-pub(crate) fn read_piece(
-    before: Progress,
-    piece: &[u8],
-    line: &mut [u8],
-    times: &mut Times,
-    ends: &mut Ends,
-    ticks: &mut [u32],
-) -> Progress
-    requires { Within before.reading × (before.pending ≤ length line.old) }
-    ensures { Within result.reading × (result.pending ≤ length line.old) }
-{
-    let mut progress = before;
-    for i in 0..piece.len() {
-        if progress.is_faulty() {
-            break;
-        }
-        progress = take_byte(progress, piece[i], line, times, ends, ticks);
-    }
-    progress
-}
-
-// A line feed ends a line, and any other byte is kept until then.
-fn take_byte(
-    before: Progress,
-    byte: u8,
-    line: &mut [u8],
-    times: &mut Times,
-    ends: &mut Ends,
-    ticks: &mut [u32],
-) -> Progress
-    requires { Within before.reading × (before.pending ≤ length line.old) }
-    ensures { Within result.reading × (result.pending ≤ length line.old) }
-{
-    let reading = before.reading;
-    let pending = before.pending;
-    if byte == b'\n' {
-        let reading = take_line(reading, &line[..pending], times, ends, ticks);
-        return Progress {
-            reading,
-            pending: 0,
-        };
-    }
-    if pending == line.len() {
-        let reading = no_entry(reading, line);
-        return Progress { reading, pending };
-    }
-    line[pending] = byte;
-    Progress {
-        reading,
-        pending: pending + 1,
-    }
-}
-
-// The last line may lack its line feed.
-pub(crate) fn last_line(
-    progress: Progress,
-    line: &[u8],
-    times: &mut Times,
-    ends: &mut Ends,
-    ticks: &mut [u32],
-) -> Reading
-    requires { Within progress.reading × (progress.pending ≤ length line.now) }
-    ensures { Within result }
-{
-    let reading = progress.reading;
-    let pending = progress.pending;
-    if pending == 0 {
-        return reading;
-    }
-    if reading.fault_line > 0 {
-        return reading;
-    }
-    take_line(reading, &line[..pending], times, ends, ticks)
-}
-
-impl Progress {
-    pub(crate) fn new() -> Progress
-        ensures { Within result.reading × (result.pending ≡ 0) }
-    {
-        Progress {
-            reading: Reading::new(),
-            pending: 0,
+impl Lines {
+    pub(crate) fn new() -> Lines {
+        Lines {
+            line: ArrayVec::new(),
         }
     }
 
-    pub(crate) fn is_faulty(self) -> bool {
-        let reading = self.reading;
-        reading.fault_line > 0
+    pub(crate) fn take(&mut self, piece: &[u8], reading: &mut Reading) -> Result<(), Fault> {
+        for &byte in piece {
+            self.take_byte(byte, reading)?;
+        }
+        Ok(())
+    }
+
+    // The last line may lack its line feed.
+    pub(crate) fn end(&mut self, reading: &mut Reading) -> Result<(), Fault> {
+        if self.line.is_empty() {
+            return Ok(());
+        }
+        take_line(self.line.as_slice(), reading)
+    }
+
+    // A line feed ends a line, and any other byte is kept until then.
+    fn take_byte(&mut self, byte: u8, reading: &mut Reading) -> Result<(), Fault> {
+        if byte == b'\n' {
+            take_line(self.line.as_slice(), reading)?;
+            self.line.clear();
+            return Ok(());
+        }
+        if self.line.try_push(byte).is_err() {
+            return Err(no_entry(self.line.as_slice(), reading));
+        }
+        Ok(())
     }
 }
 
-fn take_line(
-    before: Reading,
-    line: &[u8],
-    times: &mut Times,
-    ends: &mut Ends,
-    ticks: &mut [u32],
-) -> Reading
-    requires { Within before }
-    ensures { Within result }
-{
+fn take_line(line: &[u8], reading: &mut Reading) -> Result<(), Fault> {
     match read_entry(line) {
-        Entry::Revolution(time) => flux::begin_revolution(before, time, times, ends),
-        Entry::Interval(time) => flux::add_interval(before, time, ends, ticks),
-        Entry::Neither => no_entry(before, line),
+        Some(Entry::Revolution(time)) => reading.begin_revolution(time),
+        Some(Entry::Interval(time)) => reading.add_interval(time),
+        None => Err(no_entry(line, reading)),
     }
 }
 
-// A line that is no entry, or the first bytes of one that is too long for any.
-fn no_entry(before: Reading, line: &[u8]) -> Reading
-    requires { Within before }
-    ensures { Within result }
-{
-    if before.revolutions + before.intervals == 0 {
-        return before.this_line(fault_of_first(line));
+fn read_entry(line: &[u8]) -> Option<Entry> {
+    match line.strip_prefix(WORD) {
+        Some(number) => Some(Entry::Revolution(read_ticks(number)?)),
+        None => Some(Entry::Interval(read_ticks(line)?)),
     }
-    before.this_line(fault_of(line))
 }
 
-// The first bytes of a line that begins a revolution: `revolution`, and a space.
-const WORD: usize = 11;
-
-fn read_entry(line: &[u8]) -> Entry {
-    if begins(line, b"revolution ") {
-        return revolution(digits::read_number(after_word(line)));
-    }
-    interval(digits::read_number(line))
+// 0 ticks are none.
+fn read_ticks(text: &[u8]) -> Option<u32> {
+    digits::read_number(text).filter(|ticks| *ticks > 0)
 }
 
-fn revolution(ticks: u32) -> Entry {
-    if ticks == 0 {
-        return Entry::Neither;
+// What is wrong with a line that is no entry, or with the first bytes of one that is too long for any.
+fn no_entry(line: &[u8], reading: &Reading) -> Fault {
+    if reading.is_empty() {
+        if let Some(fault) = fault_of_first(line) {
+            return fault;
+        }
     }
-    Entry::Revolution(ticks)
-}
-
-fn interval(ticks: u32) -> Entry {
-    if ticks == 0 {
-        return Entry::Neither;
+    match fault_of(line) {
+        Some(wrong) => reading.at_this(wrong),
+        None => Fault::NotText,
     }
-    Entry::Interval(ticks)
 }
 
 // What a file that is no text begins with: the marks that imaging tools write, of longer ones the first bytes.
-fn fault_of_first(line: &[u8]) -> Fault {
-    if begins(line, b"SCP") {
-        return Fault::Scp;
+fn fault_of_first(line: &[u8]) -> Option<Fault> {
+    if line.starts_with(b"SCP") {
+        return Some(Fault::Scp);
     }
-    if begins(line, b"\r\x04") | begins(line, b"\r\x01") | begins(line, b"\r\x02") {
-        return Fault::Kryoflux;
+    if line.starts_with(b"\r\x04") || line.starts_with(b"\r\x01") || line.starts_with(b"\r\x02") {
+        return Some(Fault::Kryoflux);
     }
-    if begins(line, b"HXC") {
-        return Fault::Hfe;
+    if line.starts_with(b"HXC") {
+        return Some(Fault::Hfe);
     }
-    if begins(line, b"CAPS") {
-        return Fault::Ipf;
+    if line.starts_with(b"CAPS") {
+        return Some(Fault::Ipf);
     }
-    if begins(line, b"A2R") | begins(line, b"WOZ") {
-        return Fault::Applesauce;
+    if line.starts_with(b"A2R") || line.starts_with(b"WOZ") {
+        return Some(Fault::Applesauce);
     }
-    if begins(line, b"SQLite format") {
-        return Fault::FluxEngine;
+    if line.starts_with(b"SQLite format") {
+        return Some(Fault::FluxEngine);
     }
-    if begins(line, b"\xef\xbb\xbf") {
-        return Fault::ByteOrderMark;
+    if line.starts_with(b"\xef\xbb\xbf") {
+        return Some(Fault::Line(1, Wrong::ByteOrderMark));
     }
-    fault_of(line)
+    None
 }
 
-fn fault_of(line: &[u8]) -> Fault {
-    if line.len() == 0 {
-        return Fault::EmptyLine;
+// None where the line is no text.
+fn fault_of(line: &[u8]) -> Option<Wrong> {
+    if line.is_empty() {
+        return Some(Wrong::EmptyLine);
     }
-    if begins(line, b"revolution ") {
-        return fault_of_number(after_word(line));
-    }
-    fault_of_number(line)
+    fault_of_number(line.strip_prefix(WORD).unwrap_or(line))
 }
 
 // What is no number. One that is wrong by nothing but spaces or tabs is told so, as they are hard to see.
-fn fault_of_number(text: &[u8]) -> Fault {
-    if has_control(text) {
-        return Fault::NotText;
+fn fault_of_number(text: &[u8]) -> Option<Wrong> {
+    if text.iter().any(|b| is_in_no_text(*b)) {
+        return None;
     }
-    if has(text, b'\r') {
-        return Fault::CarriageReturn;
+    if text.contains(&b'\r') {
+        return Some(Wrong::CarriageReturn);
     }
     if is_spaced(text) {
-        return Fault::Space;
+        return Some(Wrong::Space);
     }
-    Fault::NoNumber
+    Some(Wrong::NoNumber)
 }
 
-fn after_word(line: &[u8]) -> &[u8] {
-    if line.len() < WORD {
-        return line;
-    }
-    &line[WORD..]
-}
-
-pub(crate) fn begins(line: &[u8], word: &[u8]) -> bool {
-    if line.len() < word.len() {
-        return false;
-    }
-    for i in 0..word.len() {
-        if line[i] != word[i] {
-            return false;
-        }
-    }
-    true
-}
-
-// Whether there is a byte that no text has: a control byte but for tabs and carriage returns.
-fn has_control(line: &[u8]) -> bool {
-    for i in 0..line.len() {
-        let byte = line[i];
-        if ((byte < b' ') & (byte != b'\t') & (byte != b'\r')) | (byte == 127) {
-            return true;
-        }
-    }
-    false
+// A control byte but for tabs and carriage returns.
+fn is_in_no_text(byte: u8) -> bool {
+    byte.is_ascii_control() && byte != b'\t' && byte != b'\r'
 }
 
 // Whether the bytes that are no digits are spaces and tabs, and there is one.
 fn is_spaced(text: &[u8]) -> bool {
-    for i in 0..text.len() {
-        if !is_digit_or_space(text[i]) {
-            return false;
-        }
-    }
-    has(text, b' ') | has(text, b'\t')
-}
-
-fn is_digit_or_space(byte: u8) -> bool {
-    ((b'0' <= byte) & (byte <= b'9')) | (byte == b' ') | (byte == b'\t')
-}
-
-fn has(line: &[u8], byte: u8) -> bool {
-    for i in 0..line.len() {
-        if line[i] == byte {
-            return true;
-        }
-    }
-    false
+    text.iter()
+        .all(|b| matches!(*b, b'0'..=b'9' | b' ' | b'\t'))
+        && text.iter().any(|b| matches!(*b, b' ' | b'\t'))
 }

@@ -2,51 +2,30 @@
 // intervals that pull are from their cells, and the standard errors of speed and cell. IEEE's operations and the root of
 // crate `root` alone, in one order, so that every machine writes the same digits.
 ghost use Rattle.std.specs.Prelude.{◌≡◌};
-ghost use Rattle.imaging.specs.Flux.{Within};
 ghost use Rattle.imaging.specs.Spread.{root_mean, turn_variance, seen_variance, speed_error, cell_error};
 
 use crate::fit::Place;
-use crate::flux::{Reading, Times};
+use crate::flux::Turns;
 use crate::model::Drive;
-use crate::{fit, flux};
 
-// A standard error, or that a single time has none.
-#[derive(Clone, Copy)]
-pub enum Error {
-    Known(f64),
-    OfOne,
-}
-
+// `speed` and `cell` are standard errors, of which a single time has none.
 #[derive(Clone, Copy)]
 pub struct Spread {
     pub rms: f64,
-    pub speed: Error,
-    pub cell: Error,
+    pub speed: Option<f64>,
+    pub cell: Option<f64>,
 }
 
-pub(crate) fn spread_at(
-    drive: Drive,
-    reading: Reading,
-    times: &Times,
-    ticks: &[u32],
-    median: u32,
-) -> Spread
-    requires { Within reading }
-{
-    let place = fit::place_at(drive, reading, times, ticks, median);
-    let index_times = flux::index_times(reading, times);
-    place_spread(place, index_times, flux::of_all(reading, ticks), median)
-}
-
-fn place_spread(place: Place, times: &[u32], ticks: &[u32], median: u32) -> Spread {
-    let drive = place.drive;
+pub(crate) fn spread_at(drive: Drive, turns: Turns) -> Spread {
+    let place = Place::at(drive, turns);
     let seen = drive.seen();
     let turn = 1.0 / drive.speed;
-    let off = track::count_off(ticks, seen);
-    let pulling = place.intervals - std::num::nearest_u64_to_f64(off as u64);
-    let squares = track::pulling_squares(ticks, seen);
+    let off = track::count_off(turns.ticks, seen);
+    let pulling = place.intervals - std::num::nearest_usize_to_f64(off);
+    let squares = track::pulling_squares(turns.ticks, seen);
     let of_seen = seen_variance(squares, pulling, place.cells, seen);
-    let of_turn = turn_variance(track::index_squares(times, median, turn), place.turns, turn);
+    let index_squares = track::index_squares(turns.times, turns.median, turn);
+    let of_turn = turn_variance(index_squares, place.turns, turn);
     Spread {
         rms: root_mean(squares, pulling),
         speed: unless_one(place.turns, speed_error(drive.speed, of_turn)),
@@ -54,11 +33,8 @@ fn place_spread(place: Place, times: &[u32], ticks: &[u32], median: u32) -> Spre
     }
 }
 
-fn unless_one(count: f64, error: f64) -> Error {
-    if count > 1.0 {
-        return Error::Known(error);
-    }
-    Error::OfOne
+fn unless_one(count: f64, error: f64) -> Option<f64> {
+    if count > 1.0 { Some(error) } else { None }
 }
 
 fn root_mean(squares: f64, count: f64) -> f64
@@ -72,9 +48,10 @@ fn turn_variance(squares: f64, count: f64, turn: f64) -> f64
     ensures { result ≡ turn_variance squares count turn }
 {
     if count > 1.0 {
-        return squares / (count * (count - 1.0)) / (turn * turn);
+        squares / (count * (count - 1.0)) / (turn * turn)
+    } else {
+        0.0
     }
-    0.0
 }
 
 fn seen_variance(squares: f64, count: f64, cells: f64, seen: f64) -> f64

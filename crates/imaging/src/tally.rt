@@ -2,7 +2,7 @@
 ghost use Rattle.std.specs.Prelude.{◌≡◌, ◌+◌, ◌^◌, ◌<◌};
 ghost use Rattle.imaging.specs.Tally.{tallied, files};
 
-use crate::out::Out;
+use std::fmt;
 
 #[derive(Clone, Copy)]
 pub struct Tally {
@@ -18,27 +18,21 @@ impl Tally {
     }
 
     // One file more.
-    pub(crate) fn with(self, fitted: bool) -> Tally
-        requires { files self + 1 < 2 ^ 64 }
-        ensures { result ≡ tallied fitted self }
+    pub(crate) fn count(&mut self, fitted: bool)
+        requires { files self.old + 1 < 2 ^ 64 }
+        ensures { self.new ≡ tallied fitted self.old }
     {
         if fitted {
-            return Tally {
-                fitted: self.fitted + 1,
-                not: self.not,
-            };
-        }
-        Tally {
-            fitted: self.fitted,
-            not: self.not + 1,
+            self.fitted += 1;
+        } else {
+            self.not += 1;
         }
     }
 }
 
-// The last line. It is not written where a write before it failed.
-pub(crate) fn last_line(rt: &impl Print, out: Out, tally: Tally) -> Out {
-    out.number(rt, tally.fitted)
-        .text(rt, b" fitted, ")
-        .number(rt, tally.not)
-        .text(rt, b" not\n")
+// The last line.
+impl fmt::Display for Tally {
+    fn fmt<W: fmt::Write>(&self, f: &mut fmt::Formatter<W>) -> fmt::Result {
+        write!(f, "{} fitted, {} not", self.fitted, self.not)
+    }
 }

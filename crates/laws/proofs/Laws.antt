@@ -3,7 +3,7 @@ use Prim.Native.Nat.{ℕ, zero, suc}
 use mathlib.Core.Path.{◌≡◌, refl, ap, ◌∙◌}
 use lib.Ieee.{binary64}
 use Rattle.forward.specs.Forward.{Fwd, sum, product}
-use Rattle.forward.proofs.Parts.{pair}
+use Rattle.forward.proofs.Pair.{pair}
 use Rattle.laws.specs.Laws.{Laws}
 use Rattle.laws.proofs.Floats.{float_laws}
 

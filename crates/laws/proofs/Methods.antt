@@ -1,12 +1,12 @@
--- Each method answers what its rule gives, so the laws of the rules are laws of the methods: once over the order n and
--- a one-to-one map to the numbers of that order.
-use Prim.Native.Nat.{ℕ}
+-- Each operator answers what its rule gives, so the laws of the rules are laws of the operators: once over the order n
+-- and a one-to-one map to the numbers of that order.
+use Prim.Native.Nat.{ℕ, suc}
 use mathlib.Core.Path.{◌≡◌, sym, ap, ◌∙◌}
 use lib.Ieee.{Float}
 use Rattle.forward.specs.Forward.{Fwd, sum, difference, product, negation, sum_plain, difference_plain}
-use Rattle.forward.specs.Number.{OneToOne, number1, number2, number3, number4}
-use Rattle.forward.proofs.OneToOne.{one_to_one}
-use Rattle.laws.specs.Methods.{Methods, Lawful, methods1, methods2, methods3, methods4, OfTheCode}
+use Rattle.forward.specs.Number.{OneToOne, of_parts}
+use Rattle.forward.specs.OneToOne.{of_parts_one_to_one}
+use Rattle.laws.specs.Methods.{Methods, Lawful, methods, OfTheCode}
 use Rattle.laws.proofs.Laws.{laws}
 
 -- the methods answer what the rules of order n give
@@ -30,9 +30,6 @@ lawful M n number one_to_one follows =
     }
 
 pub of_the_code : OfTheCode
-of_the_code = (
-  lawful methods1 1 number1 one_to_one.0 (record { add = λ x y z p. p.1; sub = λ x y z p. p.1; mul = λ x y z p. p.1; neg = λ x z p. p.1; add_f64 = λ x k z p. p.1; sub_f64 = λ x k z p. p.1 }),
-  lawful methods2 2 number2 one_to_one.1 (record { add = λ x y z p. p.1; sub = λ x y z p. p.1; mul = λ x y z p. p.1; neg = λ x z p. p.1; add_f64 = λ x k z p. p.1; sub_f64 = λ x k z p. p.1 }),
-  lawful methods3 3 number3 one_to_one.2 (record { add = λ x y z p. p.1; sub = λ x y z p. p.1; mul = λ x y z p. p.1; neg = λ x z p. p.1; add_f64 = λ x k z p. p.1; sub_f64 = λ x k z p. p.1 }),
-  lawful methods4 4 number4 one_to_one.3 (record { add = λ x y z p. p.1; sub = λ x y z p. p.1; mul = λ x y z p. p.1; neg = λ x z p. p.1; add_f64 = λ x k z p. p.1; sub_f64 = λ x k z p. p.1 }),
-)
+of_the_code t life =
+    lawful (methods t life) (suc t.number.order) (of_parts t.number.number) (of_parts_one_to_one t.one_to_one)
+    (record { add = λ x y z p. p.1; sub = λ x y z p. p.1; mul = λ x y z p. p.1; neg = λ x z p. p.1; add_f64 = λ x k z p. p.1; sub_f64 = λ x k z p. p.1 })

@@ -3,7 +3,7 @@ use Prim.Native.Nat.{ℕ, zero, suc, ◌+◌, ◌-◌, ◌*◌, ◌≤◌, ◌<�
 use native.Mathlib.Omega.{arith}
 use mathlib.Core.Path.{◌≡◌, refl, ap, ◌∙◌}
 use mathlib.Core.Bool.{Bool, true, false, cond}
-use mathlib.Core.List.{List, [], ◌∷◌, ◌++◌}
+use mathlib.Core.List.{List, ◌++◌}
 use lib.ListN.{length, length-append}
 use Rattle.tape.specs.Numbers.{floats}
 use Rattle.tape.specs.Machine.{Arrays, machine}
@@ -11,8 +11,7 @@ use Rattle.tape.specs.Walk.{indexes}
 use Rattle.text.specs.Numerals.{decimal}
 use Rattle.tape.specs.Listing.{header, line, lines, listing}
 use Rattle.tape.specs.declared.tape.Tape.{Tape}
-use Rattle.tape.proofs.Ranges.{nothing_left, indexes_first}
-use Rattle.listing.specs.Inner.{shown}
+use Rattle.tape.proofs.Ranges.{indexes_first}
 use Rattle.text.proofs.Numerals.{length_hex}
 use Rattle.listing.proofs.Numerals.{beyond, longer, index_length}
 
@@ -45,13 +44,6 @@ module _ (A : Arrays floats) where
 
   pub first_length : (n i : ℕ) → i < n → length (lines_from n i) ≡ 48 + length (decimal i) + length (lines_from n (i + 1))
   first_length n i h = ap length (first_line n i h) ∙ rw (length-append (line A i) (lines_from n (i + 1)), line_length i)
-
-  pub no_line : (n i : ℕ) → n ≤ i → lines_from n i ≡ []
-  no_line n i h = rw (nothing_left i n h)
-
-  pub shown_so : (is : List ℕ) → lines A is ≡ lines (shown A.value A.adjoint) is
-  shown_so [] = refl
-  shown_so (i ∷ is) = rw (shown_so is)
 
 pub listing_length : (t : Tape) (A : Arrays floats) → length (listing (machine t A)) ≡ 22 + length (decimal t.length) + length (decimal t.mark) + length (lines A (indexes 0 t.length))
 listing_length t A = length-append (header t) (lines A (indexes 0 t.length)) ∙ rw (header_length t)

@@ -1,5 +1,4 @@
 -- What the listing promises. Read `Outcome`, and `Listing` of crate tape for the bytes themselves; `Rows` has worked
--- rows; `Inner` serves the private functions, and no public promise uses it.
+-- rows.
 pub mod Outcome
 pub mod Rows
-pub mod Inner

@@ -7,7 +7,7 @@ ghost use Rattle.std.specs.Float.Ieee.{of_bits, to_bits, nan_bits};
 pub fn bits_of(x: f64) -> u64
     ensures { result ≡ to_bits binary64 x }
 {
-    if x != x {
+    if x.is_nan() {
         return 0x7ff8_0000_0000_0000;
     }
     f64::to_bits(x)
@@ -19,7 +19,7 @@ pub fn float_of(bits: u64) -> f64
 {
     // f64::from_bits is not defined there.
     if is_nan(bits) {
-        return 0.0 / 0.0;
+        return f64::NAN;
     }
     f64::from_bits(bits)
 }
@@ -30,6 +30,7 @@ fn is_nan(bits: u64) -> bool
     bits % SIGN > INFINITY
 }
 
+// Crate root has these for itself, and this crate does not stand on it.
 const SIGN: u64 = 0x8000_0000_0000_0000;
 
 const INFINITY: u64 = 0x7ff0_0000_0000_0000;

@@ -5,4 +5,3 @@ mod bits;
 pub mod listing;
 
 pub use bits::{bits_of, float_of};
-pub use listing::Listed;

@@ -1,54 +1,32 @@
-// Writes the listing into lent bytes. Whether it fits is settled before any byte is written.
+// Writes the listing into lent bytes. Whether it fits is settled before any byte is written. A writer takes a place and
+// answers the one behind, as crate text's do.
 ghost use Rattle.std.specs.Prelude.{◌+◌, ◌-◌, ◌≤◌, ◌<◌, ◌≡◌, ◌++◌, length};
 ghost use Rattle.std.specs.Float.{binary64};
 ghost use Rattle.std.specs.Float.Ieee.{to_bits};
 ghost use Rattle.tape.specs.Numbers.{floats};
-ghost use Rattle.tape.specs.Machine.{Arrays, machine, lent_arrays, most_nodes};
+ghost use Rattle.tape.specs.Machine.{Arrays, machine, lent, most_nodes};
 ghost use Rattle.tape.specs.Walk.{indexes};
 ghost use Rattle.text.specs.Numerals.{hex, decimal};
 ghost use Rattle.text.specs.Inner.{Wrote};
 ghost use Rattle.tape.specs.Listing.{header, line, lines, listing};
 ghost use Rattle.listing.specs.Outcome.{outcome, listed};
-ghost use Rattle.listing.specs.Inner.{shown};
 
 use crate::bits::bits_of;
-use tape::{Admission, Caller, Lengths, Refusal, Tape};
+use tape::{Caller, Lengths, Nodes, Refusal, Tape};
 use text::{decimal_length, write_decimal, write_hex, write_text};
 
-// What a listing answers: how many bytes were written, or the refusal.
-#[derive(Clone, Copy)]
-pub enum Listed {
-    Written(usize),
-    Refused(Refusal),
-}
-
-// Writes the header and one line per live node; the bytes behind them stay. Refuses 1, and 8 where they do not fit.
-pub fn list(
-    tape: Tape,
-    value: &[f64],
-    adjoint: &[f64],
-    serial: &[u64],
-    count: &[u8],
-    child: &[u16],
-    partial: &[f64],
-    out: &mut [u8],
-) -> Listed
-    ensures { (outcome result (machine tape (lent_arrays value.now adjoint.now serial.now count.now child.now partial.now)), out.new)
-        ≡ listed (machine tape (lent_arrays value.now adjoint.now serial.now count.now child.now partial.now)) out.old }
+// Writes the header and one line per live node, and answers how many bytes these are; the bytes behind them stay.
+// Refuses 1, and 8 where they do not fit.
+pub fn list(tape: Tape, nodes: Nodes<'_>, adjoint: &[f64], out: &mut [u8]) -> Result<usize, Refusal>
+    ensures { (outcome result (machine tape (lent nodes.entry adjoint.now)), out.new)
+        ≡ listed (machine tape (lent nodes.entry adjoint.now)) out.old }
 {
-    match tape.admit(
-        Caller::Listing,
-        Lengths::of(value, adjoint, serial, count, child, partial),
-    ) {
-        Admission::Refused(refusal) => Listed::Refused(refusal),
-        Admission::Granted => {
-            if out.len() < listing_length(tape) {
-                return Listed::Refused(Refusal::ListingTooLong);
-            }
-            let at = write_header(out, 0, tape);
-            Listed::Written(write_lines(out, at, tape.length, value, adjoint))
-        }
+    tape.admit(Caller::Listing, Lengths::of(nodes, adjoint))?;
+    if out.len() < listing_length(tape) {
+        return Err(Refusal::ListingTooLong);
     }
+    let at = write_header(out, 0, tape);
+    Ok(write_lines(out, at, tape.length, nodes, adjoint))
 }
 
 // Beside its two numbers the header has three labels, the flag and a line feed.
@@ -72,20 +50,10 @@ fn lines_length(nodes: usize) -> usize
     ensures { (A : Arrays floats) → result ≡ length (lines A (indexes 0 nodes)) }
 {
     nodes * (LINE_BYTES + 1)
-        + beyond(nodes, 10)
-        + beyond(nodes, 100)
-        + beyond(nodes, 1_000)
-        + beyond(nodes, 10_000)
-}
-
-// How many of the first n indexes are at least `first`.
-fn beyond(n: usize, first: usize) -> usize
-    ensures { result ≡ n - first }
-{
-    if n <= first {
-        return 0;
-    }
-    n - first
+        + nodes.saturating_sub(10)
+        + nodes.saturating_sub(100)
+        + nodes.saturating_sub(1_000)
+        + nodes.saturating_sub(10_000)
 }
 
 fn write_header(out: &mut [u8], at: usize, tape: Tape) -> usize
@@ -98,33 +66,31 @@ fn write_header(out: &mut [u8], at: usize, tape: Tape) -> usize
     write_text(out, at_end, b"\n")
 }
 
-fn write_lines(out: &mut [u8], at: usize, nodes: usize, value: &[f64], adjoint: &[f64]) -> usize
-    requires nodes_in_bounds { at + length (lines (shown value.now adjoint.now) (indexes 0 nodes)) ≤ length out.old }
-    requires nodes_in_bounds_2 { nodes ≤ length value.now }
-    requires nodes_in_bounds_3 { nodes ≤ length adjoint.now }
-    ensures { Wrote out.old at (lines (shown value.now adjoint.now) (indexes 0 nodes)) out.new result }
+// The lines of the first so many nodes, by index, which a line shows.
+fn write_lines(out: &mut [u8], at: usize, live: usize, nodes: Nodes<'_>, adjoint: &[f64]) -> usize
+    requires room { at + length (lines (lent nodes adjoint.now) (indexes 0 live)) ≤ length out.old }
+    requires within { (live ≤ length nodes.value.now) × (live ≤ length adjoint.now) }
+    ensures { Wrote out.old at (lines (lent nodes.entry adjoint.now) (indexes 0 live)) out.new result }
 {
     let mut end = at;
-    let mut i = 0;
-    while i < nodes {
-        end = write_line(out, end, i, value, adjoint);
-        i += 1;
+    for i in 0..live {
+        end = write_line(out, end, i, nodes, adjoint);
     }
     end
 }
 
-fn write_line(out: &mut [u8], at: usize, i: usize, value: &[f64], adjoint: &[f64]) -> usize
-    requires i_in_bounds { at + length (line (shown value.now adjoint.now) i) ≤ length out.old }
-    requires i_in_bounds_2 { i < length value.now }
-    requires i_in_bounds_3 { i < length adjoint.now }
-    ensures { Wrote out.old at (line (shown value.now adjoint.now) i) out.new result }
+fn write_line(out: &mut [u8], at: usize, i: usize, nodes: Nodes<'_>, adjoint: &[f64]) -> usize
+    requires room { at + length (line (lent nodes adjoint.now) i) ≤ length out.old }
+    requires within { (i < length nodes.value.now) × (i < length adjoint.now) }
+    ensures { Wrote out.old at (line (lent nodes.entry adjoint.now) i) out.new result }
 {
     let at_value = write_labelled_decimal(out, at, b"node=", i);
-    let at_adjoint = write_labelled_bits(out, at_value, b" val=", value[i]);
+    let at_adjoint = write_labelled_bits(out, at_value, b" val=", nodes.value[i]);
     let at_end = write_labelled_bits(out, at_adjoint, b" adj=", adjoint[i]);
     write_text(out, at_end, b"\n")
 }
 
+// One for decimals and one for bits: a trait of the two would be longer than both.
 fn write_labelled_decimal(out: &mut [u8], at: usize, label: &[u8], n: usize) -> usize
     requires { at + length label.now + length (decimal n) ≤ length out.old }
     ensures { Wrote out.old at (label.now ++ decimal n) out.new result }

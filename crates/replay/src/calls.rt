@@ -1,237 +1,238 @@
-// A line of a sequence: which call it is, what that is given and what the Rust answered.
-ghost use Rattle.std.specs.Prelude.{◌≤◌, length};
+// A line of a sequence: which call it is, what that is given and what it has to be answered.
+use crate::kinds::{Kind, NAMES};
+use crate::machine::UNLIKELY;
+use crate::said::{Answer, Digests, Said};
+use crate::words::{named, split_word};
+use dual::Pass;
+use expr::Supplied;
+use listing::float_of;
+use tape::{Handle, Operand, Refusal};
+use text::{read_digits, read_hex_start};
 
-use crate::tape_kinds::{KINDS, STALE};
-use crate::words::find;
-use crate::{kinds, tape_kinds};
-use text::{Parsed, read_digits, read_hex_start};
-
-// The letters that words begin with: a node, a value that is detached, a number of edges. The word of a float or a
-// digest begins with none.
-pub const NODE: u8 = b'n';
-
-pub const DETACHED: u8 = b'p';
-
-pub const VISITED: u8 = b'v';
-
-pub const BARE: u8 = b' ';
-
-// A word that is not there, and is not to be.
-pub const ABSENT: u8 = 0;
-
-// No word that can be read.
-const WRONG: u8 = b'?';
-
-// A refusal of the port's, and a wrong number of nodes that a slice of it says are left: words that stand in no list.
-pub const REFUSED: u8 = b'!';
-
-pub const LEFT: u8 = b'l';
-
-// The numbers of the refusals that a handle gets which is not live.
-pub const STALE_HANDLE: u64 = 3;
-
-pub const NEVER_ISSUED: u64 = 11;
+// More nodes than a sequence records.
+const NODES: usize = 32_768;
 
 // The decimal digits of a number at most.
 const MOST_DIGITS: usize = 5;
 
-// The words of a line at most: two operands, what is supplied for them, and the value.
-const MOST_WORDS: usize = 6;
-
-// What a word says.
-#[derive(Clone, Copy)]
-pub struct Said {
-    pub letter: u8,
-    pub bits: u64,
+// Where the port put the node with each serial, which a list counts from 1 as the port does. No serial is left out, and
+// there is no heap for a map.
+#[derive(Drop)]
+pub struct Places {
+    indexes: [u16; NODES],
 }
 
-pub const NO_WORD: Said = Said {
-    letter: ABSENT,
-    bits: 0,
-};
-
-const WRONG_WORD: Said = Said {
-    letter: WRONG,
-    bits: 0,
-};
-
-// The words after a line's name, and how many there are.
+// A call with its operands and what is supplied for them. A pass has the left one as its root.
 #[derive(Clone, Copy)]
-struct Words {
-    said: [Said; MOST_WORDS],
-    count: usize,
+pub struct Task {
+    pub kind: Kind,
+    pub left: Operand,
+    pub right: Operand,
+    pub given: Supplied,
 }
 
-const TOO_MANY: Words = Words {
-    said: [NO_WORD; MOST_WORDS],
-    count: MOST_WORDS + 1,
-};
-
-// A call, of kind KINDS where the line is none. The Rust takes a stale one, which the port has to refuse.
+// A call, and what it has to be answered. The Rust takes a stale one, which the port has to refuse.
 #[derive(Clone, Copy)]
 pub struct Call {
-    pub kind: usize,
+    pub task: Task,
     pub stale: bool,
-    pub left: Said,
-    pub right: Said,
-    pub value: Said,
-    pub left_partial: Said,
-    pub right_partial: Said,
-    pub answer: Said,
-    pub values: Said,
-    pub adjoints: Said,
+    pub answer: Answer,
 }
-
-const NO_CALL: Call = Call {
-    kind: KINDS,
-    stale: false,
-    left: NO_WORD,
-    right: NO_WORD,
-    value: NO_WORD,
-    left_partial: NO_WORD,
-    right_partial: NO_WORD,
-    answer: NO_WORD,
-    values: NO_WORD,
-    adjoints: NO_WORD,
-};
 
 // The call that the line has, with the word `stale` before it or without.
-pub(crate) fn read(line: &[u8]) -> Call {
-    if kinds::tape_kind(line) != STALE {
-        return read_call(line, false);
-    }
-    let from = find(line, 0, b' ') + 1;
-    if from > line.len() {
-        return NO_CALL;
-    }
-    read_call(&line[from..], true)
-}
-
-fn read_call(line: &[u8], stale: bool) -> Call {
-    let kind = kinds::tape_kind(line);
-    if kind >= STALE {
-        return NO_CALL;
-    }
-    let words = words_of(line, find(line, 0, b' '));
-    let call = with_words(kind, stale, words);
-    if (words.count == word_count(kind)) & is_readable(call) {
-        return call;
-    }
-    NO_CALL
-}
-
-// The words of the line from the space at `start` on.
-fn words_of(line: &[u8], start: usize) -> Words
-    requires { start ≤ length line.now }
-{
-    let mut said = [NO_WORD; MOST_WORDS];
-    let mut count = 0;
-    let mut at = start;
-    while at < line.len() {
-        let from = at + 1;
-        let end = find(line, from, b' ');
-        if count >= MOST_WORDS {
-            return TOO_MANY;
-        }
-        said[count] = word(&line[from..end]);
-        count += 1;
-        at = end;
-    }
-    Words { said, count }
-}
-
-fn word(text: &[u8]) -> Said {
-    if text.len() == 0 {
-        return WRONG_WORD;
-    }
-    let letter = text[0];
-    match letter {
-        NODE | VISITED => parsed(letter, read_digits(&text[1..], MOST_DIGITS)),
-        DETACHED => bits(letter, &text[1..]),
-        _ => bits(BARE, text),
+pub(crate) fn read(line: &[u8], places: &Places) -> Option<Call> {
+    let (name, rest) = split_word(line);
+    if named(&NAMES, name)? == Kind::Stale {
+        let (_, line) = rest.split_first()?;
+        read_stale(line, places)
+    } else {
+        read_call(line, places)
     }
 }
 
-fn bits(letter: u8, text: &[u8]) -> Said {
-    if text.len() == 0 {
-        return WRONG_WORD;
+fn read_stale(line: &[u8], places: &Places) -> Option<Call> {
+    let call = read_call(line, places)?;
+    Some(Call {
+        stale: true,
+        answer: Answer {
+            said: Said::Refused(Refusal::Stale),
+            digests: None,
+        },
+        ..call
+    })
+}
+
+fn read_call(line: &[u8], places: &Places) -> Option<Call> {
+    let (name, rest) = split_word(line);
+    let kind = named(&NAMES, name)?;
+    if !kind.is_call() {
+        return None;
     }
-    parsed(letter, read_hex_start(text))
-}
-
-fn parsed(letter: u8, number: Parsed) -> Said {
-    match number {
-        Parsed::Number(bits) => Said { letter, bits },
-        Parsed::NotANumber => WRONG_WORD,
-    }
-}
-
-// How many words a line of this kind has.
-fn word_count(kind: usize) -> usize {
-    tape_kinds::operands_of(kind)
-        + tape_kinds::supplied_of(kind)
-        + one_if(tape_kinds::is_answered(kind))
-        + 2 * one_if(tape_kinds::is_digested(kind))
-}
-
-fn one_if(there: bool) -> usize
-    ensures { result ≤ 1 }
-{
-    if there { 1 } else { 0 }
-}
-
-fn with_words(kind: usize, stale: bool, words: Words) -> Call {
-    let operands = tape_kinds::operands_of(kind);
-    let supplied = tape_kinds::supplied_of(kind);
-    let given = operands + supplied;
-    let answered = tape_kinds::is_answered(kind);
-    let values = given + one_if(answered);
-    let adjoints = values + 1;
-    let digested = tape_kinds::is_digested(kind);
-    Call {
+    let mut words = Unread { rest };
+    let left = words.operand(kind.operands() > 0, places)?;
+    let right = words.operand(kind.operands() > 1, places)?;
+    let given = words.supplied(kind.supplied())?;
+    let task = Task {
         kind,
-        stale,
-        left: words.at(0, operands > 0),
-        right: words.at(1, operands > 1),
-        value: words.at(operands, supplied > 0),
-        left_partial: words.at(operands + 1, supplied > 1),
-        right_partial: words.at(operands + 2, supplied > 2),
-        answer: words.at(given, answered),
-        values: words.at(values, digested),
-        adjoints: words.at(adjoints, digested),
+        left,
+        right,
+        given,
+    };
+    let answer = words.answer(kind)?;
+    if !words.rest.is_empty() {
+        return None;
     }
+    Some(Call {
+        task,
+        stale: false,
+        answer,
+    })
 }
 
-impl Words {
-    // The word at an index, if one is wanted there.
-    fn at(self, index: usize, wanted: bool) -> Said {
+// The words of a line that are not read yet, each with a space before it.
+#[derive(Drop)]
+struct Unread<'a> {
+    rest: &'a [u8],
+}
+
+impl Unread<'_> {
+    fn said(&mut self) -> Option<Said> {
+        let (_, text) = self.rest.split_first()?;
+        let (word, rest) = split_word(text);
+        self.rest = rest;
+        read_said(word)
+    }
+
+    fn bits(&mut self) -> Option<u64> {
+        match self.said()? {
+            Said::Float(bits) => Some(bits),
+            _ => None,
+        }
+    }
+
+    // An operand is a node or a float, and 0 where the line has none.
+    fn operand(&mut self, wanted: bool, places: &Places) -> Option<Operand> {
         if !wanted {
-            return NO_WORD;
+            return Some(Operand::Number(0.0));
         }
-        if index >= MOST_WORDS {
-            return NO_WORD;
+        match self.said()? {
+            Said::Node(number) => Some(Operand::Node(places.handle(number))),
+            Said::Float(bits) => Some(Operand::Number(float_of(bits))),
+            _ => None,
         }
-        let said = self.said;
-        said[index]
+    }
+
+    // What is supplied, in so many words.
+    fn supplied(&mut self, count: usize) -> Option<Supplied> {
+        let value = self.float(count > 0)?;
+        let left = self.float(count > 1)?;
+        let right = self.float(count > 2)?;
+        Some(Supplied { value, left, right })
+    }
+
+    fn float(&mut self, wanted: bool) -> Option<f64> {
+        if wanted {
+            Some(float_of(self.bits()?))
+        } else {
+            Some(UNLIKELY)
+        }
+    }
+
+    fn answer(&mut self, kind: Kind) -> Option<Answer> {
+        let said = if kind.is_answered() {
+            self.said()?
+        } else {
+            Said::Nothing
+        };
+        let digests = if kind.is_digested() {
+            Some(self.digests()?)
+        } else {
+            None
+        };
+        Some(Answer { said, digests })
+    }
+
+    fn digests(&mut self) -> Option<Digests> {
+        let values = self.bits()?;
+        let adjoints = self.bits()?;
+        Some(Digests { values, adjoints })
     }
 }
 
-// An operand is a node or a float; what is supplied and a digest are bare words.
-fn is_readable(call: Call) -> bool {
-    is_operand(call.left)
-        & is_operand(call.right)
-        & is_bare(call.value)
-        & is_bare(call.left_partial)
-        & is_bare(call.right_partial)
-        & (call.answer.letter != WRONG)
-        & is_bare(call.values)
-        & is_bare(call.adjoints)
+// A word with the letter of a node, of a value that is detached or of a number of edges, or a bare one.
+fn read_said(word: &[u8]) -> Option<Said> {
+    match word {
+        [] => None,
+        [b'n', digits @ ..] => Some(Said::Node(read_digits(digits, MOST_DIGITS)?)),
+        [b'v', digits @ ..] => Some(Said::Visited(read_digits(digits, MOST_DIGITS)?)),
+        [b'p', digits @ ..] => Some(Said::Detached(read_bits(digits)?)),
+        digits => Some(Said::Float(read_bits(digits)?)),
+    }
 }
 
-fn is_operand(word: Said) -> bool {
-    (word.letter == NODE) | is_bare(word)
+fn read_bits(digits: &[u8]) -> Option<u64> {
+    if digits.is_empty() {
+        None
+    } else {
+        read_hex_start(digits)
+    }
 }
 
-fn is_bare(word: Said) -> bool {
-    (word.letter == BARE) | (word.letter == ABSENT)
+impl Task {
+    // The pass that the call is, if it is one.
+    pub(crate) fn pass(self) -> Option<Pass> {
+        let root = self.left;
+        match self.kind {
+            Kind::Backward => Some(Pass::Backward(root)),
+            Kind::BackwardToMark => Some(Pass::BackwardToMark(root)),
+            Kind::BackwardMarkToStart => Some(Pass::BackwardMarkToStart(root)),
+            Kind::PropagateToMark => Some(Pass::PropagateToMark),
+            Kind::PropagateMarkToStart => Some(Pass::PropagateMarkToStart),
+            _ => None,
+        }
+    }
+}
+
+impl Call {
+    pub(crate) fn counted_as(self) -> Kind {
+        if self.stale {
+            Kind::Stale
+        } else {
+            self.task.kind
+        }
+    }
+}
+
+impl Places {
+    pub(crate) fn new() -> Places {
+        Places {
+            indexes: [0; NODES],
+        }
+    }
+
+    // Keeps the place of a node that was recorded.
+    pub(crate) fn keep(&mut self, node: Handle) {
+        let Ok(serial) = usize::try_from(node.serial) else {
+            return;
+        };
+        let Ok(index) = u16::try_from(node.index) else {
+            return;
+        };
+        if let Some(place) = self.indexes.get_mut(serial) {
+            *place = index;
+        }
+    }
+
+    fn handle(&self, serial: u64) -> Handle {
+        let found = usize::try_from(serial)
+            .ok()
+            .and_then(|at| self.indexes.get(at));
+        match found {
+            Some(index) => Handle {
+                index: usize::from(*index),
+                serial,
+            },
+            None => Handle::NEVER_LIVE,
+        }
+    }
 }

@@ -1,271 +1,88 @@
 // A call of a sequence, carried out by the port.
-use crate::calls::{BARE, DETACHED, NO_WORD, REFUSED, Said, VISITED};
-use crate::slices::{Cut, Way, pass_in_slices};
-use crate::tape_kinds::*;
-use crate::words::digest;
-use dual::clearing::reset_adjoints;
-use dual::passes::{
-    backward, backward_mark_to_start, backward_to_mark, propagate_mark_to_start, propagate_to_mark,
-};
-use dual::{Cleared, Pass, Passed, Read};
-use expr::recording::record;
-use expr::{Recorded, Supplied};
+use crate::calls::Task;
+use crate::kinds::Kind;
+use crate::machine::Machine;
+use crate::said::Said;
+use crate::slices::pass_in_slices;
+use crate::subject::Way;
+use dual::Pass;
+use expr::Recorded;
 use listing::bits_of;
-use tape::{Handle, Moved, Operand, Refusal, Tape};
+use tape::{Handle, Refusal, Tape};
 
-// What the port answered, the node that it recorded, the tape after the call, how many slices were taken and, where a
-// sequence has them, the digests of all values and adjoints on the tape.
+// What the port answered, the node that it recorded, and how many slices were taken.
 #[derive(Clone, Copy)]
 pub struct Heard {
-    pub answer: Said,
-    pub node: Handle,
-    pub tape: Tape,
+    pub said: Said,
+    pub node: Option<Handle>,
     pub slices: u64,
-    pub values: u64,
-    pub adjoints: u64,
 }
 
-// A call with its operands and what is supplied for them; a pass has the left one as its root, and is carried out in a
-// way, cut by the number of its line.
-#[derive(Clone, Copy)]
-pub struct Task {
-    pub kind: usize,
-    pub left: Operand,
-    pub right: Operand,
-    pub given: Supplied,
-    pub way: Way,
-    pub line: u64,
-}
-
-pub(crate) fn no_task() -> Task {
-    Task {
-        kind: KINDS,
-        left: Operand::Number(0.0),
-        right: Operand::Number(0.0),
-        given: Supplied::NONE,
-        way: Way::InOneGo,
-        line: 0,
-    }
-}
-
-pub(crate) fn carry_out(
-    tape: Tape,
-    value: &mut [f64],
-    adjoint: &mut [f64],
-    serial: &mut [u64],
-    count: &mut [u8],
-    child: &mut [u16],
-    partial: &mut [f64],
-    task: Task,
-) -> Heard {
-    if is_operation(task.kind) {
-        let left = task.left;
-        let right = task.right;
-        let given = task.given;
-        return after_recording(record(
-            tape,
-            value,
-            adjoint,
-            serial,
-            count,
-            child,
-            partial,
-            operation(task.kind),
-            left,
-            right,
-            given,
-        ));
-    }
-    answer(tape, value, adjoint, serial, count, child, partial, task)
-}
-
-// A call that records nothing, and so writes no array but the adjoints.
-fn answer(
-    tape: Tape,
-    value: &[f64],
-    adjoint: &mut [f64],
-    serial: &[u64],
-    count: &[u8],
-    child: &[u16],
-    partial: &[f64],
-    task: Task,
-) -> Heard {
-    let kind = task.kind;
-    if is_pass(kind) {
-        return pass(tape, value, adjoint, serial, count, child, partial, task);
-    }
-    let x = task.left;
-    match kind {
-        RESET_ADJOINTS => after_clearing(
-            tape,
-            reset_adjoints(tape, value, adjoint, serial, count, child, partial),
-        ),
-        VALUE => after_read(
-            tape,
-            dual::reading::value(tape, value, &*adjoint, serial, count, child, partial, x),
-        ),
-        ADJOINT => after_read(
-            tape,
-            dual::reading::adjoint(tape, value, &*adjoint, serial, count, child, partial, x),
-        ),
-        _ => after_move(moved(tape, kind)),
-    }
-}
-
-fn pass(
-    tape: Tape,
-    value: &[f64],
-    adjoint: &mut [f64],
-    serial: &[u64],
-    count: &[u8],
-    child: &[u16],
-    partial: &[f64],
-    task: Task,
-) -> Heard {
-    let way = task.way;
-    if way.is_cut() {
-        return after_slices(pass_in_slices(
-            tape,
-            value,
-            adjoint,
-            serial,
-            count,
-            child,
-            partial,
-            pass_of(task),
-            task.line,
-            way.is_whole(),
-        ));
-    }
-    let passed = in_one_go(tape, value, adjoint, serial, count, child, partial, task);
-    after_pass(tape, passed)
-}
-
-fn in_one_go(
-    tape: Tape,
-    value: &[f64],
-    adjoint: &mut [f64],
-    serial: &[u64],
-    count: &[u8],
-    child: &[u16],
-    partial: &[f64],
-    task: Task,
-) -> Passed {
-    let kind = task.kind;
-    let root = task.left;
-    match kind {
-        BACKWARD => backward(tape, value, adjoint, serial, count, child, partial, root),
-        BACKWARD_TO_MARK => {
-            backward_to_mark(tape, value, adjoint, serial, count, child, partial, root)
+impl Heard {
+    fn new(said: Said) -> Heard {
+        Heard {
+            said,
+            node: None,
+            slices: 0,
         }
-        BACKWARD_MARK_TO_START => {
-            backward_mark_to_start(tape, value, adjoint, serial, count, child, partial, root)
-        }
-        PROPAGATE_TO_MARK => {
-            propagate_to_mark(tape, value, adjoint, serial, count, child, partial)
-        }
-        _ => propagate_mark_to_start(tape, value, adjoint, serial, count, child, partial),
     }
 }
 
-fn pass_of(task: Task) -> Pass {
-    let kind = task.kind;
-    let root = task.left;
-    match kind {
-        BACKWARD => Pass::Backward(root),
-        BACKWARD_TO_MARK => Pass::BackwardToMark(root),
-        BACKWARD_MARK_TO_START => Pass::BackwardMarkToStart(root),
-        PROPAGATE_TO_MARK => Pass::PropagateToMark,
-        _ => Pass::PropagateMarkToStart,
+// A pass is carried out in a way, cut by the number of its line. The kinds come out of a list, so that each is told
+// apart here and in what is called here.
+pub(crate) fn carry_out(machine: &mut Machine, task: Task, way: Way, line: u64) -> Heard {
+    if let Some(op) = task.kind.operation() {
+        return after_recording(machine.record(op, task.left, task.right, task.given));
     }
+    match task.pass() {
+        Some(pass) if way.is_cut() => pass_in_slices(machine, pass, line, way),
+        Some(pass) => Heard::new(visited(machine, pass).unwrap_or_else(Said::from)),
+        None => Heard::new(answer(machine, task).unwrap_or_else(Said::from)),
+    }
+}
+
+fn after_recording(recorded: Result<Recorded, Refusal>) -> Heard {
+    match recorded {
+        Ok(Recorded { value, handle, .. }) => {
+            let bits = bits_of(value);
+            let said = match handle {
+                Some(_) => Said::Float(bits),
+                None => Said::Detached(bits),
+            };
+            Heard {
+                node: handle,
+                ..Heard::new(said)
+            }
+        }
+        Err(refusal) => Heard::new(Said::Refused(refusal)),
+    }
+}
+
+fn visited(machine: &mut Machine, pass: Pass) -> Result<Said, Refusal> {
+    let edges = machine.in_one_go(pass)?;
+    Ok(Said::Visited(u64::from(edges)))
+}
+
+// A call that records nothing and walks nothing.
+fn answer(machine: &mut Machine, task: Task) -> Result<Said, Refusal> {
+    match task.kind {
+        Kind::ResetAdjoints => machine.reset_adjoints()?,
+        Kind::Value => return Ok(Said::Float(bits_of(machine.value(task.left)?))),
+        Kind::Adjoint => return Ok(Said::Float(bits_of(machine.adjoint(task.left)?))),
+        kind => machine.tape = moved(machine.tape, kind)?,
+    }
+    Ok(Said::Nothing)
 }
 
 // At the end of a sequence nothing is called.
-fn moved(tape: Tape, kind: usize) -> Moved {
+fn moved(tape: Tape, kind: Kind) -> Result<Tape, Refusal> {
     match kind {
-        START_RECORDING => tape.start_recording(),
-        STOP_RECORDING => tape.stop_recording(),
-        SET_MARK => tape.set_mark(),
-        RESET_MARK => tape.reset_mark(),
-        REWIND_TO_MARK => tape.rewind_to_mark(),
-        REWIND_TO_INIT => tape.rewind_to_init(),
-        _ => Moved::Done(tape),
+        Kind::StartRecording => tape.start_recording(),
+        Kind::StopRecording => tape.stop_recording(),
+        Kind::SetMark => tape.set_mark(),
+        Kind::ResetMark => tape.reset_mark(),
+        Kind::RewindToMark => tape.rewind_to_mark(),
+        Kind::RewindToInit => tape.rewind_to_init(),
+        _ => Ok(tape),
     }
-}
-
-fn after_move(answer: Moved) -> Heard {
-    match answer {
-        Moved::Done(tape) => answered(tape, NO_WORD),
-        Moved::Refused(refusal, tape) => refused(tape, refusal),
-    }
-}
-
-fn after_recording(answer: Recorded) -> Heard {
-    match answer {
-        Recorded::Node(x, handle, tape) => with_node(number(tape, BARE, bits_of(x)), handle),
-        Recorded::Detached(x, tape) => number(tape, DETACHED, bits_of(x)),
-        Recorded::Refused(refusal, tape) => refused(tape, refusal),
-    }
-}
-
-fn after_pass(tape: Tape, answer: Passed) -> Heard {
-    match answer {
-        Passed::Visited(edges) => number(tape, VISITED, edges as u64),
-        Passed::Refused(refusal) => refused(tape, refusal),
-    }
-}
-
-fn after_slices(cut: Cut) -> Heard {
-    let mut heard = answered(cut.tape, cut.answer);
-    heard.slices = cut.slices;
-    heard
-}
-
-fn after_clearing(tape: Tape, answer: Cleared) -> Heard {
-    match answer {
-        Cleared::Done => answered(tape, NO_WORD),
-        Cleared::Refused(refusal) => refused(tape, refusal),
-    }
-}
-
-fn after_read(tape: Tape, answer: Read) -> Heard {
-    match answer {
-        Read::Number(x) => number(tape, BARE, bits_of(x)),
-        Read::Refused(refusal) => refused(tape, refusal),
-    }
-}
-
-fn refused(tape: Tape, refusal: Refusal) -> Heard {
-    number(tape, REFUSED, refusal.number() as u64)
-}
-
-fn number(tape: Tape, letter: u8, bits: u64) -> Heard {
-    answered(tape, Said { letter, bits })
-}
-
-fn answered(tape: Tape, answer: Said) -> Heard {
-    Heard {
-        answer,
-        node: Handle::NEVER_LIVE,
-        tape,
-        slices: 0,
-        values: 0,
-        adjoints: 0,
-    }
-}
-
-fn with_node(mut heard: Heard, node: Handle) -> Heard {
-    heard.node = node;
-    heard
-}
-
-// With the digests, where a sequence has them after such a call.
-pub(crate) fn with_digests(mut heard: Heard, kind: usize, value: &[f64], adjoint: &[f64]) -> Heard {
-    if !is_digested(kind) {
-        return heard;
-    }
-    let length = heard.tape.length;
-    heard.values = digest(value, length);
-    heard.adjoints = digest(adjoint, length);
-    heard
 }

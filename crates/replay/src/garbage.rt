@@ -1,337 +1,225 @@
 // A call that was refused for its stale handle, made again with other handles in the place of that one: garbage, which
 // was never issued, and its own serial at indexes past the length.
-use crate::calls::{NEVER_ISSUED, REFUSED, STALE_HANDLE, Said};
-use crate::carry_out::{Heard, Task, carry_out};
-use crate::sequences::{CAPACITY, Run};
-use crate::tape_kinds::{GARBAGE, PAST_THE_LENGTH};
-use crate::words::digest;
-use dual::Liveness;
-use dual::reading::is_live;
-use tape::{Handle, Operand, Tape, Walk};
+use crate::calls::Task;
+use crate::carry_out::carry_out;
+use crate::kinds::Kind;
+use crate::list::List;
+use crate::machine::{CAPACITY, Machine};
+use crate::said::{Refused, Said};
+use crate::sequences::{Run, Stage};
+use crate::subject::Way;
+use crate::tally::Aside;
+use std::fmt;
+use std::fmt::Display;
+use tape::{Handle, Lookup, Operand, Refusal, Tape};
 
-// The handles are numbered, four serials at each of four indexes. Number 0 is the stale handle itself.
-const SERIALS: usize = 4;
-
-const HANDLES: usize = 16;
-
-// Those at the first two indexes, which are enough for a control.
-const ISSUED_HANDLES: usize = 8;
-
-// The stale handle, and which operands of the call it is.
+// The call, the stale handle in it, and which of the operands that is.
 #[derive(Clone, Copy)]
 struct Spot {
+    task: Task,
     stale: Handle,
     left: bool,
     right: bool,
 }
 
-// Digests of all that is lent for values and adjoints, so that what is written behind the last node is seen.
-#[derive(Clone, Copy)]
-struct Digests {
-    values: u64,
-    adjoints: u64,
-}
-
 // What a call answered, and whether it left the tape as it was.
 #[derive(Clone, Copy)]
-pub struct Made {
-    pub answer: Said,
-    pub same_state: bool,
-    pub same_values: bool,
-    pub same_adjoints: bool,
+struct Made {
+    said: Said,
+    same_state: bool,
+    same_values: bool,
+    same_adjoints: bool,
 }
 
-// What came of a handle, with the number of the refusal that it has to get.
+// What came of a handle, with what it has to be refused as.
 #[derive(Clone, Copy)]
-pub struct Got {
-    pub handle: Handle,
-    pub wanted: u64,
-    pub liveness: Liveness,
-    pub made: Made,
+struct Got {
+    handle: Handle,
+    wanted: Refusal,
+    liveness: Result<Option<Lookup>, Refusal>,
+    made: Made,
 }
 
-pub(crate) fn replay(
-    rt: &impl Print,
-    run: Run,
-    list: &[u8],
-    value: &mut [f64],
-    adjoint: &mut [f64],
-    serial: &mut [u64],
-    count: &mut [u8],
-    child: &mut [u16],
-    partial: &mut [f64],
-) -> Run {
-    if !run.ends_stale() {
-        return run;
-    }
-    let spot = spot_of(
-        run.tape, value, adjoint, serial, count, child, partial, run.last,
-    );
-    each_handle(
-        rt, run, spot, list, value, adjoint, serial, count, child, partial,
-    )
-}
-
-fn spot_of(
-    tape: Tape,
-    value: &[f64],
-    adjoint: &[f64],
-    serial: &[u64],
-    count: &[u8],
-    child: &[u16],
-    partial: &[f64],
-    task: Task,
-) -> Spot {
-    let x = task.left;
-    let y = task.right;
-    let left = is_live(tape, value, adjoint, serial, count, child, partial, x);
-    let right = is_live(tape, value, adjoint, serial, count, child, partial, y);
-    Spot {
-        stale: if is_stale(left) {
-            handle_of(x)
-        } else {
-            handle_of(y)
-        },
-        left: is_stale(left),
-        right: is_stale(right),
+pub(crate) fn replay<R: Print>(list: &mut List<'_, R>, run: &mut Run) {
+    let Stage::EndedStale(task) = run.stage else {
+        return;
+    };
+    let spot = Spot::of(&run.machine, task);
+    let tape = run.machine.tape;
+    let issued = run.way == Way::Issued;
+    let indexes = [spot.stale.index, tape.length, CAPACITY, usize::MAX];
+    // The first two are enough for a control.
+    let taken = if issued { 2 } else { indexes.len() };
+    for (i, &index) in indexes.iter().take(taken).enumerate() {
+        for (k, &serial) in spot.serials(tape, issued).iter().enumerate() {
+            // The first index with the first serial stands for the stale handle itself, which has been refused.
+            if i > 0 || k > 0 {
+                let wanted = if k == 0 {
+                    Refusal::Stale
+                } else {
+                    Refusal::NeverIssued
+                };
+                spot.try_with(list, run, Handle { index, serial }, wanted);
+            }
+        }
     }
 }
 
-fn is_stale(liveness: Liveness) -> bool {
-    refusal_for(liveness) == STALE_HANDLE
-}
-
-// The refusal that a call gets for a handle which is_live finds so, or 0.
-fn refusal_for(liveness: Liveness) -> u64 {
-    match liveness {
-        Liveness::Live => 0,
-        Liveness::Stale => STALE_HANDLE,
-        Liveness::NeverIssued => NEVER_ISSUED,
-        Liveness::Number => 0,
-        Liveness::Refused(_) => 0,
-    }
-}
-
-fn handle_of(x: Operand) -> Handle {
-    match x {
-        Operand::Number(_) => Handle::NEVER_LIVE,
-        Operand::Node(handle) => handle,
-    }
-}
-
-fn each_handle(
-    rt: &impl Print,
-    before: Run,
-    spot: Spot,
-    list: &[u8],
-    value: &mut [f64],
-    adjoint: &mut [f64],
-    serial: &mut [u64],
-    count: &mut [u8],
-    child: &mut [u16],
-    partial: &mut [f64],
-) -> Run {
-    let mut run = before;
-    let end = handles_of(before);
-    for number in 1..end {
-        run = one_handle(
-            rt, run, spot, number, list, value, adjoint, serial, count, child, partial,
-        );
-    }
-    run
-}
-
-fn one_handle(
-    rt: &impl Print,
-    run: Run,
-    spot: Spot,
-    number: usize,
-    list: &[u8],
-    value: &mut [f64],
-    adjoint: &mut [f64],
-    serial: &mut [u64],
-    count: &mut [u8],
-    child: &mut [u16],
-    partial: &mut [f64],
-) -> Run {
-    let handle = spot.handle(run, number);
-    let x = Operand::Node(handle);
-    let liveness = is_live(run.tape, value, adjoint, serial, count, child, partial, x);
-    let task = spot.with(handle, run.last);
-    let made = make(
-        run.tape, value, adjoint, serial, count, child, partial, task,
-    );
-    run.tried(
-        rt,
-        list,
-        Got {
-            handle,
-            wanted: wanted(number),
-            liveness,
-            made,
-        },
-    )
-}
-
-fn make(
-    tape: Tape,
-    value: &mut [f64],
-    adjoint: &mut [f64],
-    serial: &mut [u64],
-    count: &mut [u8],
-    child: &mut [u16],
-    partial: &mut [f64],
-    task: Task,
-) -> Made {
-    let before = digests_of(value, adjoint);
-    let heard = carry_out(tape, value, adjoint, serial, count, child, partial, task);
-    let after = digests_of(value, adjoint);
-    made_of(tape, before, heard, after)
-}
-
-fn digests_of(value: &[f64], adjoint: &[f64]) -> Digests {
-    Digests {
-        values: digest(value, CAPACITY),
-        adjoints: digest(adjoint, CAPACITY),
-    }
-}
-
-fn made_of(tape: Tape, before: Digests, heard: Heard, after: Digests) -> Made {
-    let answer = heard.answer;
+// Carries the call out, which has to leave all as it was; what is lent for values and adjoints up to its end, so that
+// what is written behind the last node is seen.
+fn make(machine: &mut Machine, task: Task, way: Way, line: u64) -> Made {
+    let tape = machine.tape;
+    let before = machine.digests(CAPACITY);
+    let heard = carry_out(machine, task, way, line);
+    let after = machine.digests(CAPACITY);
+    let state = machine.tape;
+    machine.tape = tape;
     Made {
-        answer,
-        same_state: is_state(heard.tape, tape),
+        said: heard.said,
+        same_state: state == Tape { walk: None, ..tape },
         same_values: after.values == before.values,
         same_adjoints: after.adjoints == before.adjoints,
     }
 }
 
-// Whether the state is the same as one in which no walk is open.
-fn is_state(state: Tape, before: Tape) -> bool {
-    let walk = state.walk;
-    (state.length == before.length)
-        & (state.mark == before.mark)
-        & (state.active == before.active)
-        & (state.next == before.next)
-        & is_closed(walk)
-}
-
-fn is_closed(walk: Walk) -> bool {
-    match walk {
-        Walk::Closed => true,
-        Walk::Open(_) => false,
+// The refusal that a call gets for a handle which is_live finds so.
+fn refusal_for(liveness: Result<Option<Lookup>, Refusal>) -> Option<Refusal> {
+    match liveness {
+        Ok(Some(Lookup::Stale)) => Some(Refusal::Stale),
+        Ok(Some(Lookup::NeverIssued)) => Some(Refusal::NeverIssued),
+        _ => None,
     }
-}
-
-fn handles_of(run: Run) -> usize {
-    let way = run.way;
-    if way.is_issued() {
-        ISSUED_HANDLES
-    } else {
-        HANDLES
-    }
-}
-
-fn wanted(number: usize) -> u64 {
-    if number % SERIALS == 0 {
-        STALE_HANDLE
-    } else {
-        NEVER_ISSUED
-    }
-}
-
-impl Spot {
-    fn handle(self, run: Run, number: usize) -> Handle {
-        let way = run.way;
-        let which = number % SERIALS;
-        Handle {
-            index: self.index(run.tape, number / SERIALS),
-            serial: if way.is_issued() {
-                self.serial_issued(run.tape, which)
-            } else {
-                self.serial(run.tape, which)
-            },
-        }
-    }
-
-    fn index(self, tape: Tape, which: usize) -> usize {
-        match which {
-            0 => self.stale.index,
-            1 => tape.length,
-            2 => CAPACITY,
-            _ => usize::MAX,
-        }
-    }
-
-    // The stale handle's own, and then those that were never issued.
-    fn serial(self, tape: Tape, which: usize) -> u64 {
-        match which {
-            0 => self.stale.serial,
-            1 => 0,
-            2 => tape.next,
-            _ => u64::MAX,
-        }
-    }
-
-    // For a control: one that was never issued where it should have been, and then those that were.
-    fn serial_issued(self, tape: Tape, which: usize) -> u64 {
-        match which {
-            0 => 0,
-            1 => 1,
-            2 => before(tape.next),
-            _ => self.stale.serial,
-        }
-    }
-
-    // The call with this handle in the place of the stale one.
-    fn with(self, handle: Handle, task: Task) -> Task {
-        let left = task.left;
-        let right = task.right;
-        let given = task.given;
-        let way = task.way;
-        Task {
-            kind: task.kind,
-            left: exchanged(left, self.left, handle),
-            right: exchanged(right, self.right, handle),
-            given,
-            way,
-            line: task.line,
-        }
-    }
-}
-
-fn before(serial: u64) -> u64 {
-    if serial == 0 { 0 } else { serial - 1 }
 }
 
 fn exchanged(x: Operand, stale: bool, handle: Handle) -> Operand {
     if stale { Operand::Node(handle) } else { x }
 }
 
-impl Got {
-    pub(crate) fn kind(self) -> usize {
-        if self.wanted == NEVER_ISSUED {
-            GARBAGE
-        } else {
-            PAST_THE_LENGTH
+impl Spot {
+    fn of(machine: &Machine, task: Task) -> Spot {
+        let left = is_stale(machine, task.left);
+        let x = if left { task.left } else { task.right };
+        Spot {
+            task,
+            stale: match x {
+                Operand::Number(_) => Handle::NEVER_LIVE,
+                Operand::Node(handle) => handle,
+            },
+            left,
+            right: is_stale(machine, task.right),
         }
     }
 
-    pub(crate) fn agrees(self) -> bool {
+    // The stale handle's own, and then those that were never issued; for a control one that was never issued where it
+    // should have been, and then those that were.
+    fn serials(self, tape: Tape, issued: bool) -> [u64; 4] {
+        if issued {
+            [0, 1, tape.next.saturating_sub(1), self.stale.serial]
+        } else {
+            [self.stale.serial, 0, tape.next, u64::MAX]
+        }
+    }
+
+    // Makes the call with this handle, reports what is amiss and counts it.
+    fn try_with<R: Print>(
+        self,
+        list: &mut List<'_, R>,
+        run: &mut Run,
+        handle: Handle,
+        wanted: Refusal,
+    ) {
+        let liveness = run.machine.is_live(Operand::Node(handle));
+        let task = self.with(handle);
+        let got = Got {
+            handle,
+            wanted,
+            liveness,
+            made: make(&mut run.machine, task, run.way, list.tally.lines),
+        };
+        let agrees = got.agrees();
+        list.tally
+            .next_case(got.kind() as usize, agrees, Aside::default());
+        if !agrees {
+            list.amiss(&got);
+            run.stage = Stage::Broken;
+        }
+    }
+
+    // The call with this handle in the place of the stale one.
+    fn with(self, handle: Handle) -> Task {
+        let task = self.task;
+        Task {
+            left: exchanged(task.left, self.left, handle),
+            right: exchanged(task.right, self.right, handle),
+            ..task
+        }
+    }
+}
+
+fn is_stale(machine: &Machine, x: Operand) -> bool {
+    refusal_for(machine.is_live(x)) == Some(Refusal::Stale)
+}
+
+impl Got {
+    fn kind(self) -> Kind {
+        if self.wanted == Refusal::NeverIssued {
+            Kind::Garbage
+        } else {
+            Kind::PastTheLength
+        }
+    }
+
+    fn agrees(self) -> bool {
+        let made = self.made;
         self.is_refused()
-            & self.is_found()
-            & self.made.same_state
-            & self.made.same_values
-            & self.made.same_adjoints
+            && self.is_found()
+            && made.same_state
+            && made.same_values
+            && made.same_adjoints
     }
 
-    pub(crate) fn is_refused(self) -> bool {
-        let answer = self.made.answer;
-        (answer.letter == REFUSED) & (answer.bits == self.wanted)
+    fn is_refused(self) -> bool {
+        self.made.said == Said::Refused(self.wanted)
     }
 
-    pub(crate) fn is_found(self) -> bool {
-        let liveness = self.liveness;
-        refusal_for(liveness) == self.wanted
+    fn is_found(self) -> bool {
+        refusal_for(self.liveness) == Some(self.wanted)
     }
+}
+
+// The handle, and what is not as it has to be.
+impl Display for Got {
+    fn fmt<W: fmt::Write>(&self, f: &mut fmt::Formatter<W>) -> fmt::Result {
+        let got = *self;
+        let kind = got.kind().name();
+        let Handle { index, serial } = got.handle;
+        write!(f, "{kind} index {index} serial {serial} got")?;
+        if !got.is_refused() {
+            got.made.said.fmt(f)?;
+        }
+        if !got.is_found() {
+            write_liveness(f, got.liveness)?;
+        }
+        write_unless(f, got.made.same_state, " another state")?;
+        write_unless(f, got.made.same_values, " other values")?;
+        write_unless(f, got.made.same_adjoints, " other adjoints")
+    }
+}
+
+fn write_liveness<W: fmt::Write>(
+    f: &mut fmt::Formatter<W>,
+    liveness: Result<Option<Lookup>, Refusal>,
+) -> fmt::Result {
+    f.write_str(" is_live")?;
+    match liveness {
+        Ok(Some(Lookup::Live)) => f.write_str(" live"),
+        Ok(Some(Lookup::Stale)) => f.write_str(" stale"),
+        Ok(Some(Lookup::NeverIssued)) => f.write_str(" never issued"),
+        Ok(None) => f.write_str(" a number"),
+        Err(refusal) => Refused(refusal).fmt(f),
+    }
+}
+
+fn write_unless<W: fmt::Write>(f: &mut fmt::Formatter<W>, same: bool, words: &str) -> fmt::Result {
+    if same { Ok(()) } else { f.write_str(words) }
 }

@@ -1,82 +1,158 @@
-// What a list has cases of, and the names of its kinds of cases, each with a space after it. A kind is the place of its
-// name.
-use crate::slices::Way;
-use crate::tape_kinds;
-use crate::tape_kinds::KINDS;
-use crate::words::{find, is_first_word};
+// The kinds of cases of the tape: the operations, then the other lines of a sequence.
+ghost use Rattle.std.specs.Prelude.{◌≤◌};
 
-pub const FORWARD: [u8; 155] =
-    *b"constant var zero one reads add sub mul div rem max_val min_val neg abs add_f64 sub_f64 mul_f64 div_f64 rem_f64 sub_from div_into compare compare_f64 sqrt ";
-
-pub const TAPE: [u8; 299] =
-    *b"leaf add sub mul div max min neg supplied_one supplied_two sqrt start_recording stop_recording set_mark reset_mark rewind_to_mark rewind_to_init backward backward_to_mark backward_mark_to_start propagate_to_mark propagate_mark_to_start reset_adjoints value adjoint end stale garbage past_the_length ";
-
-// Of forward numbers, of an order, of the tape, with its passes carried out in a way, or of square roots alone.
-#[derive(Clone, Copy)]
-pub enum Subject {
-    Forward(usize),
-    Table,
-    Sequences(Way),
-    Stale(Way),
-    Roots,
+#[derive(Clone, Copy, PartialEq, Eq)]
+pub enum Kind {
+    Leaf,
+    Add,
+    Subtract,
+    Multiply,
+    Divide,
+    Max,
+    Min,
+    Negate,
+    SuppliedOne,
+    SuppliedTwo,
+    Sqrt,
+    // The calls that record nothing: those that move the mark or the length first, then the passes.
+    StartRecording,
+    StopRecording,
+    SetMark,
+    ResetMark,
+    RewindToMark,
+    RewindToInit,
+    Backward,
+    BackwardToMark,
+    BackwardMarkToStart,
+    PropagateToMark,
+    PropagateMarkToStart,
+    ResetAdjoints,
+    Value,
+    Adjoint,
+    End,
+    // What is no call: the word before a stale one, and the calls made again with another handle for the stale one, one
+    // that was never issued, or one of the same serial at an index past the length.
+    Stale,
+    Garbage,
+    PastTheLength,
 }
 
-// Whether the report of a list has a line for a kind: for operations 8 and 9 only where the list has cases of them.
-pub(crate) fn is_reported(subject: Subject, kind: usize, cases: u64) -> bool {
-    match subject {
-        Subject::Forward(_) => true,
-        Subject::Table => tape_kinds::is_operation(kind) & is_met(kind, cases),
-        Subject::Sequences(way) => is_of_sequences(way, kind, cases),
-        Subject::Stale(_) => kind >= tape_kinds::STALE,
-        Subject::Roots => kind == tape_kinds::SQRT,
+pub const KINDS: usize = 29;
+
+// The names, in the order in which they are declared and reported.
+pub const NAMES: [(&str, Kind); KINDS] = [
+    ("leaf", Kind::Leaf),
+    ("add", Kind::Add),
+    ("sub", Kind::Subtract),
+    ("mul", Kind::Multiply),
+    ("div", Kind::Divide),
+    ("max", Kind::Max),
+    ("min", Kind::Min),
+    ("neg", Kind::Negate),
+    ("supplied_one", Kind::SuppliedOne),
+    ("supplied_two", Kind::SuppliedTwo),
+    ("sqrt", Kind::Sqrt),
+    ("start_recording", Kind::StartRecording),
+    ("stop_recording", Kind::StopRecording),
+    ("set_mark", Kind::SetMark),
+    ("reset_mark", Kind::ResetMark),
+    ("rewind_to_mark", Kind::RewindToMark),
+    ("rewind_to_init", Kind::RewindToInit),
+    ("backward", Kind::Backward),
+    ("backward_to_mark", Kind::BackwardToMark),
+    ("backward_mark_to_start", Kind::BackwardMarkToStart),
+    ("propagate_to_mark", Kind::PropagateToMark),
+    ("propagate_mark_to_start", Kind::PropagateMarkToStart),
+    ("reset_adjoints", Kind::ResetAdjoints),
+    ("value", Kind::Value),
+    ("adjoint", Kind::Adjoint),
+    ("end", Kind::End),
+    ("stale", Kind::Stale),
+    ("garbage", Kind::Garbage),
+    ("past_the_length", Kind::PastTheLength),
+];
+
+impl Kind {
+    pub(crate) fn name(self) -> &'static str {
+        let (name, _) = NAMES[self as usize];
+        name
     }
-}
 
-// Where the passes are cut, for them and the stale calls that the list has, made again with garbage too, and no other
-// kind.
-fn is_of_sequences(way: Way, kind: usize, cases: u64) -> bool {
-    if way.is_cut() {
-        return (tape_kinds::is_pass(kind) | (kind >= tape_kinds::STALE)) & (cases > 0);
-    }
-    (kind < tape_kinds::STALE) & is_met(kind, cases)
-}
-
-fn is_met(kind: usize, cases: u64) -> bool {
-    !tape_kinds::is_supplied(kind) | (cases > 0)
-}
-
-// How a list's passes are carried out.
-pub(crate) fn way_of(subject: Subject) -> Way {
-    match subject {
-        Subject::Forward(_) => Way::InOneGo,
-        Subject::Table => Way::InOneGo,
-        Subject::Sequences(way) => way,
-        Subject::Stale(way) => way,
-        Subject::Roots => Way::InOneGo,
-    }
-}
-
-// The kind of forward numbers that the line is of, or KINDS.
-pub(crate) fn forward_kind(line: &[u8]) -> usize {
-    kind_of(&FORWARD, line)
-}
-
-// The kind of the tape's cases that the line is of, or KINDS.
-pub(crate) fn tape_kind(line: &[u8]) -> usize {
-    kind_of(&TAPE, line)
-}
-
-// The kind among these names that is the line's first word, or KINDS.
-fn kind_of(names: &[u8], line: &[u8]) -> usize {
-    let mut kind = 0;
-    let mut from = 0;
-    while from < names.len() {
-        let end = find(names, from, b' ');
-        if is_first_word(line, &names[from..end]) {
-            return kind;
+    // The number of an operation.
+    pub(crate) fn operation(self) -> Option<u8> {
+        match self {
+            Kind::Leaf => Some(expr::LEAF),
+            Kind::Add => Some(expr::ADD),
+            Kind::Subtract => Some(expr::SUBTRACT),
+            Kind::Multiply => Some(expr::MULTIPLY),
+            Kind::Divide => Some(expr::DIVIDE),
+            Kind::Max => Some(expr::MAX),
+            Kind::Min => Some(expr::MIN),
+            Kind::Negate => Some(expr::NEGATE),
+            Kind::SuppliedOne => Some(expr::SUPPLIED_ONE),
+            Kind::SuppliedTwo => Some(expr::SUPPLIED_TWO),
+            Kind::Sqrt => Some(expr::SQRT),
+            _ => None,
         }
-        kind += 1;
-        from = end + 1;
     }
-    KINDS
+
+    // Whether the line has what the host supplies.
+    pub(crate) fn is_supplied(self) -> bool {
+        self.supplied() > 0
+    }
+
+    // Whether an operation answers one of its operands, max or min: at some of these the Rust departs from the rule.
+    pub(crate) fn chooses(self) -> bool {
+        matches!(self, Kind::Max | Kind::Min)
+    }
+
+    pub(crate) fn is_pass(self) -> bool {
+        matches!(
+            self,
+            Kind::Backward
+                | Kind::BackwardToMark
+                | Kind::BackwardMarkToStart
+                | Kind::PropagateToMark
+                | Kind::PropagateMarkToStart
+        )
+    }
+
+    // Whether a line of a sequence may be of this kind, with the word `stale` before it or without.
+    pub(crate) fn is_call(self) -> bool {
+        !matches!(self, Kind::Stale | Kind::Garbage | Kind::PastTheLength)
+    }
+
+    // How many operands a line has, its root or what it reads counted as one.
+    pub(crate) fn operands(self) -> usize
+        ensures { result ≤ 2 }
+    {
+        match self {
+            Kind::Leaf | Kind::Negate | Kind::SuppliedOne | Kind::Sqrt => 1,
+            Kind::Backward | Kind::BackwardToMark | Kind::BackwardMarkToStart => 1,
+            Kind::Value | Kind::Adjoint => 1,
+            _ if self.operation().is_some() => 2,
+            _ => 0,
+        }
+    }
+
+    // How many words are supplied: a value, and a partial for each operand.
+    pub(crate) fn supplied(self) -> usize
+        ensures { result ≤ 3 }
+    {
+        match self {
+            Kind::SuppliedOne => 2,
+            Kind::SuppliedTwo => 3,
+            _ => 0,
+        }
+    }
+
+    // Whether a line of a sequence has a number that was answered.
+    pub(crate) fn is_answered(self) -> bool {
+        self.operation().is_some() || self.is_pass() || matches!(self, Kind::Value | Kind::Adjoint)
+    }
+
+    // Whether a line of a sequence has digests of the values and of the adjoints.
+    pub(crate) fn is_digested(self) -> bool {
+        self.is_pass() || matches!(self, Kind::ResetAdjoints | Kind::End)
+    }
 }

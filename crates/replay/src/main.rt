@@ -3,110 +3,81 @@
 
 mod calls;
 mod carry_out;
-mod cases;
 mod comparison;
 mod forward_kinds;
 mod garbage;
 mod kinds;
+mod list;
 mod lists;
+mod machine;
 mod nodes;
-mod order1;
-mod order2;
-mod order3;
-mod order4;
+mod number_words;
+mod numbers;
 mod orders;
-mod report;
+mod pending;
 mod roots;
+mod said;
 mod sequences;
 mod slices;
+mod subject;
 mod table;
 mod tally;
-mod tape_kinds;
 mod words;
 
-use kinds::Subject;
+use forward_kinds::Order;
 use lists::replay;
-use slices::Way;
-use std::rt::Files;
+use subject::{Subject, Way};
+
+const IN_ONE_GO: Subject = Subject::Sequences(Way::InOneGo);
+
+const IN_SLICES: Subject = Subject::Sequences(Way::InSlices);
+
+const LISTS: [(&str, Subject); 18] = [
+    ("fwd1.txt", Subject::Forward(Order::First)),
+    ("fwd2.txt", Subject::Forward(Order::Second)),
+    ("fwd3.txt", Subject::Forward(Order::Third)),
+    ("fwd4.txt", Subject::Forward(Order::Fourth)),
+    ("table.txt", Subject::Table),
+    ("sequences.txt", IN_ONE_GO),
+    ("sessions.txt", IN_ONE_GO),
+    ("stale.txt", Subject::Stale(Way::InOneGo)),
+    ("supplied_table.txt", Subject::Table),
+    ("supplied_sequences.txt", IN_ONE_GO),
+    ("supplied_sessions.txt", IN_ONE_GO),
+    ("roots.txt", Subject::Roots),
+    ("sequences.txt", IN_SLICES),
+    ("sessions.txt", IN_SLICES),
+    ("stale.txt", IN_SLICES),
+    ("supplied_sequences.txt", IN_SLICES),
+    ("supplied_sessions.txt", IN_SLICES),
+    // Whole, it has to agree, so that as a control it differs by the last slices alone.
+    ("slices_control.txt", IN_SLICES),
+];
+
+const CONTROLS: [(&str, Subject); 14] = [
+    ("control.txt", Subject::Forward(Order::First)),
+    ("table_control.txt", Subject::Table),
+    ("sequences_control.txt", IN_ONE_GO),
+    ("sessions_control.txt", IN_ONE_GO),
+    ("supplied_table_control.txt", Subject::Table),
+    ("supplied_sequences_control.txt", IN_ONE_GO),
+    ("supplied_sessions_control.txt", IN_ONE_GO),
+    ("roots_control.txt", Subject::Roots),
+    ("sequences_control.txt", IN_SLICES),
+    ("sessions_control.txt", IN_SLICES),
+    ("supplied_sequences_control.txt", IN_SLICES),
+    ("supplied_sessions_control.txt", IN_SLICES),
+    ("slices_control.txt", Subject::Sequences(Way::Unfinished)),
+    ("garbage_control.txt", Subject::Stale(Way::Issued)),
+];
 
 fn main(rt: HostRuntime) {
-    forward_lists(&rt);
-    tape_lists(&rt);
-    replay(&rt, "roots.txt", Subject::Roots);
-    lists_in_slices(&rt);
+    for (path, subject) in LISTS {
+        replay(&rt, path, subject);
+    }
     // Without them, a comparison that sees nothing would pass for one that finds nothing.
-    report::text(&rt, b"control: each of these must differ\n");
-    controls(&rt);
-}
-
-fn forward_lists(rt: &(impl Files + Print)) {
-    replay(rt, "fwd1.txt", Subject::Forward(1));
-    replay(rt, "fwd2.txt", Subject::Forward(2));
-    replay(rt, "fwd3.txt", Subject::Forward(3));
-    replay(rt, "fwd4.txt", Subject::Forward(4));
-}
-
-fn tape_lists(rt: &(impl Files + Print)) {
-    replay(rt, "table.txt", Subject::Table);
-    replay(rt, "sequences.txt", Subject::Sequences(Way::InOneGo));
-    replay(rt, "sessions.txt", Subject::Sequences(Way::InOneGo));
-    replay(rt, "stale.txt", Subject::Stale(Way::InOneGo));
-    replay(rt, "supplied_table.txt", Subject::Table);
-    replay(
-        rt,
-        "supplied_sequences.txt",
-        Subject::Sequences(Way::InOneGo),
-    );
-    replay(
-        rt,
-        "supplied_sessions.txt",
-        Subject::Sequences(Way::InOneGo),
-    );
-}
-
-fn lists_in_slices(rt: &(impl Files + Print)) {
-    in_slices(rt, "sequences.txt");
-    in_slices(rt, "sessions.txt");
-    in_slices(rt, "stale.txt");
-    in_slices(rt, "supplied_sequences.txt");
-    in_slices(rt, "supplied_sessions.txt");
-    // Whole, it has to agree, so that as a control it differs by the last slices alone.
-    in_slices(rt, "slices_control.txt");
-}
-
-fn in_slices(rt: &(impl Files + Print), path: &str) {
-    replay(rt, path, Subject::Sequences(Way::InSlices));
-}
-
-fn controls(rt: &(impl Files + Print)) {
-    replay(rt, "control.txt", Subject::Forward(1));
-    replay(rt, "table_control.txt", Subject::Table);
-    replay(
-        rt,
-        "sequences_control.txt",
-        Subject::Sequences(Way::InOneGo),
-    );
-    replay(rt, "sessions_control.txt", Subject::Sequences(Way::InOneGo));
-    replay(rt, "supplied_table_control.txt", Subject::Table);
-    replay(
-        rt,
-        "supplied_sequences_control.txt",
-        Subject::Sequences(Way::InOneGo),
-    );
-    replay(
-        rt,
-        "supplied_sessions_control.txt",
-        Subject::Sequences(Way::InOneGo),
-    );
-    replay(rt, "roots_control.txt", Subject::Roots);
-    in_slices(rt, "sequences_control.txt");
-    in_slices(rt, "sessions_control.txt");
-    in_slices(rt, "supplied_sequences_control.txt");
-    in_slices(rt, "supplied_sessions_control.txt");
-    replay(
-        rt,
-        "slices_control.txt",
-        Subject::Sequences(Way::Unfinished),
-    );
-    replay(rt, "garbage_control.txt", Subject::Stale(Way::Issued));
+    let _ = println!(&rt; "control: each of these must differ");
+    for (path, subject) in CONTROLS {
+        replay(&rt, path, subject);
+    }
 }

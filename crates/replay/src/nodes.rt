@@ -1,23 +1,15 @@
 // An operation recorded by the port on a tape of its own, and the node that comes of it.
-ghost use Rattle.std.specs.Prelude.{◌<◌};
-
+use crate::machine::{NO_CHILD, NO_COUNT, UNLIKELY};
+use expr::Supplied;
 use expr::recording::record;
-use expr::{Recorded, Supplied};
 use listing::{bits_of, float_of};
-use tape::{Handle, MOST_EDGES, Operand, Tape};
+use std::fmt;
+use tape::{Handle, MOST_EDGES, Nodes, NodesMut, Operand, Refusal, Tape};
 
 // Two operands, the node, and one to spare.
 const CAPACITY: usize = 4;
 
 const SLOTS: usize = MOST_EDGES * CAPACITY;
-
-// What the arrays hold at first, no count or child that a node here can have and an unlikely float, so that what the
-// port leaves unwritten is seen.
-pub const NO_COUNT: u8 = 0xff;
-
-pub const NO_CHILD: u16 = 0xffff;
-
-pub const UNLIKELY: f64 = 0.7;
 
 const FIRST: Handle = Handle {
     index: 0,
@@ -29,126 +21,105 @@ const SECOND: Handle = Handle {
     serial: 2,
 };
 
-// An operand as a case has it: the word of its value, and whether it stands on the tape.
+// An operand as a case has it: the word of its value, and whether it stands on the tape. The word stands beside the
+// flag, since a leaf and a plain number both have it.
 #[derive(Clone, Copy)]
 pub struct Given {
     pub on_tape: bool,
     pub bits: u64,
 }
 
-#[derive(Clone, Copy)]
+#[derive(Clone, Copy, PartialEq, Eq)]
 pub struct Edge {
     pub child: u16,
     pub partial: u64,
 }
 
-// The word of a node's value, how many edges it has, and these.
+// The word of a node's value, how many edges it has, and these. The port's count is kept as the port wrote it, and may
+// be more than there are edges.
 #[derive(Clone, Copy)]
 pub struct Node {
     pub value: u64,
     pub count: u8,
-    pub first: Edge,
-    pub second: Edge,
+    pub edges: [Edge; MOST_EDGES],
 }
 
-#[derive(Clone, Copy)]
-pub enum Outcome {
-    Node(Node),
-    NoNode,
-    Refused(u8),
-}
-
-// What is supplied, of which a line has the first `count` words. An operation has to leave the others alone.
-pub(crate) fn supplied(count: usize, value: u64, left: u64, right: u64) -> Supplied {
-    Supplied {
-        value: float_if(count > 0, value),
-        left: float_if(count > 1, left),
-        right: float_if(count > 2, right),
+// The value, and each edge's partial and child.
+impl fmt::Display for Node {
+    fn fmt<W: fmt::Write>(&self, f: &mut fmt::Formatter<W>) -> fmt::Result {
+        let value = self.value;
+        write!(f, " {value:016x}")?;
+        for Edge { child, partial } in self.edges.iter().take(usize::from(self.count)) {
+            write!(f, " {partial:016x} to {child}")?;
+        }
+        Ok(())
     }
-}
-
-fn float_if(there: bool, bits: u64) -> f64 {
-    if there { float_of(bits) } else { UNLIKELY }
 }
 
 // Records the operation beside two leaves: the first has the value of the first operand that is on the tape, the second
-// that of the right one.
-pub(crate) fn carry_out(op: u8, left: Given, right: Given, given: Supplied) -> Outcome {
-    let mut value = [UNLIKELY; CAPACITY];
-    let mut adjoint = [UNLIKELY; CAPACITY];
-    let mut serial = [0u64; CAPACITY];
-    let mut count = [NO_COUNT; CAPACITY];
-    let mut child = [NO_CHILD; SLOTS];
-    let mut partial = [UNLIKELY; SLOTS];
+// that of the right one. A node that lies past the arrays is none.
+pub(crate) fn carry_out(
+    op: u8,
+    left: Given,
+    right: Given,
+    supplied: Supplied,
+) -> Result<Option<Node>, Refusal> {
     let first = if left.on_tape { left.bits } else { right.bits };
+    let mut value = [UNLIKELY; CAPACITY];
     value[0] = float_of(first);
     value[1] = float_of(right.bits);
-    serial[0] = 1;
-    serial[1] = 2;
+    let mut nodes = NodesMut {
+        value: &mut value,
+        serial: &mut [1, 2, 0, 0],
+        count: &mut [NO_COUNT; CAPACITY],
+        child: &mut [NO_CHILD; SLOTS],
+        partial: &mut [UNLIKELY; SLOTS],
+    };
     let recorded = record(
         two_leaves(),
-        &mut value,
-        &mut adjoint,
-        &mut serial,
-        &mut count,
-        &mut child,
-        &mut partial,
+        &mut nodes,
+        &mut [UNLIKELY; CAPACITY],
         op,
-        operand(left, false),
-        operand(right, left.on_tape),
-        given,
-    );
-    match recorded {
-        Recorded::Node(v, handle, _) => node_at(handle.index, v, &count, &child, &partial),
-        Recorded::Detached(_, _) => Outcome::NoNode,
-        Recorded::Refused(refusal, _) => Outcome::Refused(refusal.number()),
-    }
+        operand(left, FIRST),
+        operand(right, if left.on_tape { SECOND } else { FIRST }),
+        supplied,
+    )?;
+    let index = recorded.handle.map(|node| node.index);
+    Ok(index.and_then(|index| node_at(nodes.shared(), index, recorded.value)))
 }
 
 // The tape as two leaves leave it.
 fn two_leaves() -> Tape {
-    let mut tape = Tape::new();
-    tape.length = 2;
-    tape.active = true;
-    tape.next = 3;
-    tape
+    Tape {
+        length: 2,
+        active: true,
+        next: 3,
+        ..Tape::new()
+    }
 }
 
-// The operand as the port takes it, the first or the second leaf where it is on the tape.
-fn operand(given: Given, second: bool) -> Operand {
-    if !given.on_tape {
-        return Operand::Number(float_of(given.bits));
+// The operand as the port takes it, this leaf where it is on the tape.
+fn operand(given: Given, leaf: Handle) -> Operand {
+    if given.on_tape {
+        Operand::Node(leaf)
+    } else {
+        Operand::Number(float_of(given.bits))
     }
-    if second {
-        return Operand::Node(SECOND);
-    }
-    Operand::Node(FIRST)
 }
 
-fn node_at(
-    index: usize,
-    v: f64,
-    count: &[u8; CAPACITY],
-    child: &[u16; SLOTS],
-    partial: &[f64; SLOTS],
-) -> Outcome {
-    if index >= CAPACITY {
-        return Outcome::NoNode;
-    }
-    let first = MOST_EDGES * index;
-    Outcome::Node(Node {
-        value: bits_of(v),
-        count: count[index],
-        first: edge_at(child, partial, first),
-        second: edge_at(child, partial, first + 1),
+fn node_at(nodes: Nodes<'_>, index: usize, value: f64) -> Option<Node> {
+    let count = *nodes.count.get(index)?;
+    let first = index.checked_mul(MOST_EDGES)?;
+    Some(Node {
+        value: bits_of(value),
+        count,
+        edges: [edge_at(nodes, first)?, edge_at(nodes, first + 1)?],
     })
 }
 
-fn edge_at(child: &[u16; SLOTS], partial: &[f64; SLOTS], at: usize) -> Edge
-    requires { at < SLOTS }
-{
-    Edge {
-        child: child[at],
-        partial: bits_of(partial[at]),
-    }
+fn edge_at(nodes: Nodes<'_>, at: usize) -> Option<Edge> {
+    Some(Edge {
+        child: *nodes.child.get(at)?,
+        partial: bits_of(*nodes.partial.get(at)?),
+    })
 }

@@ -1,46 +1,51 @@
 // A line of a list of forward numbers, carried out by the port and compared.
-use crate::tally::{NOTHING, Tally};
-use crate::tape_kinds::KINDS;
-use crate::words::{Answer, Case, PLACES, find};
-use crate::{forward_kinds, kinds, order1, order2, order3, order4, report, words};
+use crate::forward_kinds::{Kind, NAMES, Order};
+use crate::list::List;
+use crate::numbers;
+use crate::said::Words;
+use crate::tally::Aside;
+use crate::words::{Answer, Case, named, read_words, split_word};
+use forward::{Fwd1, Fwd2, Fwd3};
 
 // Carries the line out, reports a difference or that it is no case, and counts it.
-pub(crate) fn replay(
-    rt: &impl Print,
-    list: &[u8],
-    order: usize,
-    line: &[u8],
-    tally: Tally,
-) -> Tally {
-    let kind = kinds::forward_kind(line);
-    if kind == KINDS {
-        return report::malformed(rt, list, tally);
-    }
-    let size = forward_kinds::number_words(order);
-    let operands = forward_kinds::operand_words(kind, size);
-    let answers = forward_kinds::answer_words(kind, order, size);
-    let name = find(line, 0, b' ');
-    if line.len() - name != PLACES * (operands + answers) {
-        return report::malformed(rt, list, tally);
-    }
+pub(crate) fn replay<R: Print>(list: &mut List<'_, R>, order: Order, line: &[u8]) {
+    list.tally.next_line();
     let mut case: Case = [0; 48];
-    if !words::read_words(line, name, operands + answers, &mut case) {
-        return report::malformed(rt, list, tally);
-    }
+    let Some(kind) = read(order, line, &mut case) else {
+        list.malformed();
+        return;
+    };
     let mut got: Answer = [0; 16];
     carry_out(order, kind, &case, &mut got);
-    if words::is_same(&case, operands, &got, answers) {
-        return tally.next_case(kind, true, NOTHING);
+    let operands = kind.operand_words(order);
+    let answers = kind.answer_words(order);
+    let got = &got[..answers];
+    let agrees = &case[operands..operands + answers] == got;
+    if !agrees {
+        list.difference(line, &Words(got));
     }
-    report::difference(rt, list, tally.lines, line, &got, answers);
-    tally.next_case(kind, false, NOTHING)
+    list.tally
+        .next_case(kind as usize, agrees, Aside::default());
 }
 
-fn carry_out(order: usize, kind: usize, case: &Case, got: &mut Answer) {
+// The kind of the line's case, whose words stand first in `case` then.
+fn read(order: Order, line: &[u8], case: &mut Case) -> Option<Kind> {
+    let (name, rest) = split_word(line);
+    let kind = named(&NAMES, name)?;
+    let count = kind.operand_words(order) + kind.answer_words(order);
+    if read_words(rest, case)? == count {
+        Some(kind)
+    } else {
+        None
+    }
+}
+
+// The order of a list is known when it is read, and a number's type before.
+fn carry_out(order: Order, kind: Kind, case: &Case, got: &mut Answer) {
     match order {
-        1 => order1::carry_out(kind, case, got),
-        2 => order2::carry_out(kind, case, got),
-        3 => order3::carry_out(kind, case, got),
-        _ => order4::carry_out(kind, case, got),
+        Order::First => numbers::carry_out::<f64>(kind, 2, case, got),
+        Order::Second => numbers::carry_out::<Fwd1>(kind, 4, case, got),
+        Order::Third => numbers::carry_out::<Fwd2>(kind, 8, case, got),
+        Order::Fourth => numbers::carry_out::<Fwd3>(kind, 16, case, got),
     }
 }

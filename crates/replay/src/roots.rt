@@ -1,29 +1,35 @@
 // A line of a list of square roots, a double and its root, taken by the port and compared.
-use crate::tally::{NOTHING, Tally};
-use crate::tape_kinds::SQRT;
-use crate::words::{Answer, Case, PLACES, find};
-use crate::{report, words};
+use crate::kinds::Kind;
+use crate::list::List;
+use crate::said::Words;
+use crate::tally::Aside;
+use crate::words::{Case, read_words, split_word};
 use listing::{bits_of, float_of};
-use text::{Parsed, read_hex};
+use text::read_hex;
 
 // Takes the line's root, reports a difference or that the line is no case, and counts it.
-pub(crate) fn replay(rt: &impl Print, list: &[u8], line: &[u8], tally: Tally) -> Tally {
-    let first = find(line, 0, b' ');
-    let Parsed::Number(x) = read_hex(&line[0..first]) else {
-        return report::malformed(rt, list, tally);
+pub(crate) fn replay<R: Print>(list: &mut List<'_, R>, line: &[u8]) {
+    list.tally.next_line();
+    let Some((x, root)) = read(line) else {
+        list.malformed();
+        return;
     };
-    if line.len() - first != PLACES {
-        return report::malformed(rt, list, tally);
+    let got = bits_of(root::sqrt(float_of(x)));
+    let agrees = got == root;
+    if !agrees {
+        list.difference(line, &Words(&[got]));
     }
+    list.tally
+        .next_case(Kind::Sqrt as usize, agrees, Aside::default());
+}
+
+fn read(line: &[u8]) -> Option<(u64, u64)> {
+    let (first, rest) = split_word(line);
+    let x = read_hex(first)?;
     let mut case: Case = [0; 48];
-    if !words::read_words(line, first, 1, &mut case) {
-        return report::malformed(rt, list, tally);
+    if read_words(rest, &mut case)? == 1 {
+        Some((x, case[0]))
+    } else {
+        None
     }
-    let mut got: Answer = [0; 16];
-    got[0] = bits_of(root::sqrt(float_of(x)));
-    if words::is_same(&case, 0, &got, 1) {
-        return tally.next_case(SQRT, true, NOTHING);
-    }
-    report::difference(rt, list, tally.lines, line, &got, 1);
-    tally.next_case(SQRT, false, NOTHING)
 }

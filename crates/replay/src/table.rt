@@ -1,182 +1,175 @@
 // A line of the operations table, recorded by the port and compared: the value, the edges and their partials.
-ghost use Rattle.std.specs.Prelude.{◌≡◌, ◌+◌, ◌*◌, ◌≤◌, ◌<◌};
-
-use crate::nodes::{Edge, Given, NO_CHILD, Node, Outcome};
-use crate::tally::{Aside, Tally};
-use crate::words::{Case, NAN, PLACES, byte_at, find};
-use crate::{kinds, nodes, report, tape_kinds, words};
+use crate::kinds::{Kind, NAMES};
+use crate::list::List;
+use crate::machine::{NO_CHILD, UNLIKELY};
+use crate::nodes::{Edge, Given, Node};
+use crate::said::Refused;
+use crate::tally::Aside;
+use crate::words::{NAN, named, split_word};
+use crate::{nodes, words};
+use expr::Supplied;
 use listing::float_of;
-use tape::MOST_EDGES;
+use tape::{MOST_EDGES, Refusal};
 
 const ZERO: u64 = 0;
 
 const ONE: u64 = 0x3ff0_0000_0000_0000;
 
-// The letters of a case's operands, n for one on the tape and p for a plain number. A single operand stands in both.
+// A case as its line has it: the operation, the operands, what is supplied and the node that the Rust recorded. A single
+// operand has a number beside it that must not matter.
 #[derive(Clone, Copy)]
-struct Form {
-    left: u8,
-    right: u8,
+struct Case {
+    kind: Kind,
+    op: u8,
+    left: Given,
+    right: Given,
+    supplied: Supplied,
+    node: Node,
 }
 
 // Records the line's operation, reports a difference or that the line is no case, and counts it.
-pub(crate) fn replay(rt: &impl Print, list: &[u8], line: &[u8], tally: Tally) -> Tally {
-    let kind = kinds::tape_kind(line);
-    if !tape_kinds::is_operation(kind) {
-        return report::malformed(rt, list, tally);
-    }
-    let operands = tape_kinds::operands_of(kind);
-    let given = operands + tape_kinds::supplied_of(kind);
-    let letters = find(line, 0, b' ');
-    let form = Form {
-        left: byte_at(line, letters + 1),
-        right: byte_at(line, letters + operands),
+pub(crate) fn replay<R: Print>(list: &mut List<'_, R>, line: &[u8]) {
+    list.tally.next_line();
+    let Some(case) = Case::read(line) else {
+        list.malformed();
+        return;
     };
-    let from = letters + 1 + operands;
-    if !is_form(form) {
-        return report::malformed(rt, list, tally);
-    }
-    if from > line.len() {
-        return report::malformed(rt, list, tally);
-    }
-    let partials = partial_count(line.len() - from, PLACES * (given + 1));
-    let mut case: Case = [0; 48];
-    if partials > MOST_EDGES {
-        return report::malformed(rt, list, tally);
-    }
-    if !words::read_words(line, from, given + 1 + partials, &mut case) {
-        return report::malformed(rt, list, tally);
-    }
-    judge(rt, list, tally, line, kind, form, partials, &case)
-}
-
-fn is_form(form: Form) -> bool {
-    is_letter(form.left) & is_letter(form.right)
-}
-
-fn is_letter(byte: u8) -> bool {
-    (byte == b'n') | (byte == b'p')
-}
-
-// How many partials stand in so many bytes after the first `front` of them, or more than a node has.
-fn partial_count(length: usize, front: usize) -> usize
-    requires { front ≤ 1024 }
-    ensures { result ≤ 2 → length ≡ front + 17 * result }
-{
-    if length == front {
-        return 0;
-    }
-    if length == front + PLACES {
-        return 1;
-    }
-    if length == front + 2 * PLACES {
-        return 2;
-    }
-    MOST_EDGES + 1
-}
-
-fn judge(
-    rt: &impl Print,
-    list: &[u8],
-    tally: Tally,
-    line: &[u8],
-    kind: usize,
-    form: Form,
-    partials: usize,
-    case: &Case,
-) -> Tally
-    requires { partials ≤ 2 }
-{
-    let operands = tape_kinds::operands_of(kind);
-    let left = Given {
-        on_tape: form.left == b'n',
-        bits: case[0],
+    let got = nodes::carry_out(case.op, case.left, case.right, case.supplied);
+    let aside = case.aside();
+    let agrees = match got {
+        Ok(Some(node)) => is_same(node, case.by_the_rule(aside), aside),
+        _ => false,
     };
-    // A single operand has none beside it.
-    let right = Given {
-        on_tape: (operands > 1) & (form.right == b'n'),
-        bits: case[1],
+    if !agrees {
+        report(list, line, got);
+    }
+    list.tally.next_case(case.kind as usize, agrees, aside);
+}
+
+fn report<R: Print>(list: &List<'_, R>, line: &[u8], got: Result<Option<Node>, Refusal>) {
+    match got {
+        Ok(Some(node)) => list.difference(line, &node),
+        Ok(None) => list.difference(line, &" no node"),
+        Err(refusal) => list.difference(line, &Refused(refusal)),
+    }
+}
+
+impl Case {
+    // A letter for each operand, n for one on the tape and p for a plain number, and then the words.
+    fn read(line: &[u8]) -> Option<Case> {
+        let (name, rest) = split_word(line);
+        let kind = named(&NAMES, name)?;
+        let op = kind.operation()?;
+        let (_, form) = rest.split_first()?;
+        let (letters, text) = form.split_at_checked(kind.operands())?;
+        let (left, right) = on_tape(letters)?;
+        let mut words: words::Case = [0; 48];
+        let count = words::read_words(text, &mut words)?;
+        let at = kind.operands() + kind.supplied();
+        let partials = count.checked_sub(at + 1)?;
+        if partials > MOST_EDGES {
+            return None;
+        }
+        Some(Case {
+            kind,
+            op,
+            left: Given {
+                on_tape: left,
+                bits: words[0],
+            },
+            right: Given {
+                on_tape: right,
+                bits: words[1],
+            },
+            supplied: supplied(kind, &words),
+            node: Node {
+                value: words[at],
+                count: partials as u8,
+                edges: [
+                    edge(left || right, 0, words[at + 1]),
+                    edge(left && right, 1, words[at + 2]),
+                ],
+            },
+        })
+    }
+
+    // Where the Rust departs from the rule, or may (docs/DIFFERENCES.md): the value of max and min where the right
+    // operand alone is a NaN, and at two zeros of unlike sign, which are equal with unlike bits; the partials at every
+    // tie.
+    fn aside(self) -> Aside {
+        let left = self.left.bits;
+        let right = self.right.bits;
+        let right_alone = right == NAN && left != NAN;
+        let tie = float_of(left) == float_of(right);
+        Aside {
+            value: self.kind.chooses() && (right_alone || tie && left != right),
+            partials: self.kind.chooses() && tie,
+        }
+    }
+
+    // The node as it has to be: with the partials of the line or, at a tie, with 1 for the left operand and 0 for the
+    // right. The first edge is the left operand's where that is on the tape.
+    fn by_the_rule(self, aside: Aside) -> Node {
+        let mut node = self.node;
+        if aside.partials {
+            node.edges[0].partial = if self.left.on_tape { ONE } else { ZERO };
+            node.edges[1].partial = ZERO;
+        }
+        node
+    }
+}
+
+// Whether the left operand is on the tape, and whether a right one is.
+fn on_tape(letters: &[u8]) -> Option<(bool, bool)> {
+    match letters {
+        [single] => Some((is_on_tape(*single)?, false)),
+        [left, right] => Some((is_on_tape(*left)?, is_on_tape(*right)?)),
+        _ => None,
+    }
+}
+
+fn is_on_tape(letter: u8) -> Option<bool> {
+    match letter {
+        b'n' => Some(true),
+        b'p' => Some(false),
+        _ => None,
+    }
+}
+
+// What is supplied, of which a line has the first words. An operation has to leave the others alone.
+fn supplied(kind: Kind, words: &words::Case) -> Supplied {
+    let from = kind.operands();
+    let count = kind.supplied();
+    let float = |i: usize| {
+        if i < count {
+            float_of(words[from + i])
+        } else {
+            UNLIKELY
+        }
     };
-    let count = tape_kinds::supplied_of(kind);
-    let at = operands + count;
-    let recorded = node_of(left.on_tape, right.on_tape, at, partials, case);
-    let given = nodes::supplied(
-        count,
-        case[operands],
-        case[operands + 1],
-        case[operands + 2],
-    );
-    let got = nodes::carry_out(tape_kinds::operation(kind), left, right, given);
-    let aside = aside(kind, left.bits, right.bits);
-    let wanted = by_the_rule(recorded, aside, left.on_tape);
-    if agrees(got, wanted, aside) {
-        return tally.next_case(kind, true, aside);
-    }
-    report::outcome(rt, list, tally.lines, line, got);
-    tally.next_case(kind, false, aside)
-}
-
-// The node that the line has after the words that are given. An operand on the tape has the index at which it stands
-// there, the left before the right.
-fn node_of(left: bool, right: bool, given: usize, partials: usize, case: &Case) -> Node
-    requires { (given ≤ 5) × (partials ≤ 2) }
-{
-    Node {
-        value: case[given],
-        count: partials as u8,
-        first: Edge {
-            child: child(left | right, 0),
-            partial: case[given + 1],
-        },
-        second: Edge {
-            child: child(left & right, 1),
-            partial: case[given + 2],
-        },
+    Supplied {
+        value: float(0),
+        left: float(1),
+        right: float(2),
     }
 }
 
-fn child(there: bool, index: u16) -> u16 {
-    if there { index } else { NO_CHILD }
-}
-
-// Where the Rust departs from the rule, or may (docs/DIFFERENCES.md): the value of max and min where the right operand
-// alone is a NaN, and at two zeros of unlike sign, which are equal with unlike bits; the partials at every tie.
-fn aside(kind: usize, left: u64, right: u64) -> Aside {
-    let right_alone = (right == NAN) & (left != NAN);
-    let tie = float_of(left) == float_of(right);
-    Aside {
-        value: tape_kinds::chooses(kind) & (right_alone | (tie & (left != right))),
-        partials: tape_kinds::chooses(kind) & tie,
+// An operand on the tape has the index at which it stands there, the left before the right.
+fn edge(there: bool, index: u16, partial: u64) -> Edge {
+    Edge {
+        child: if there { index } else { NO_CHILD },
+        partial,
     }
-}
-
-// The node as it has to be: with the partials of the line or, at a tie, with 1 for the left operand and 0 for the
-// right. The first edge is the left operand's where that is on the tape.
-fn by_the_rule(recorded: Node, aside: Aside, left_on_tape: bool) -> Node {
-    let mut node = recorded;
-    if aside.partials {
-        node.first.partial = if left_on_tape { ONE } else { ZERO };
-        node.second.partial = ZERO;
-    }
-    node
 }
 
 // Whether the port recorded the node, but for its value where that is left out.
-fn agrees(got: Outcome, wanted: Node, aside: Aside) -> bool {
-    match got {
-        Outcome::Node(node) => is_same(node, wanted, aside),
-        Outcome::NoNode => false,
-        Outcome::Refused(_) => false,
-    }
-}
-
 fn is_same(node: Node, wanted: Node, aside: Aside) -> bool {
-    (aside.value | (node.value == wanted.value))
-        & (node.count == wanted.count)
-        & ((wanted.count < 1) | is_same_edge(node.first, wanted.first))
-        & ((wanted.count < 2) | is_same_edge(node.second, wanted.second))
-}
-
-fn is_same_edge(edge: Edge, wanted: Edge) -> bool {
-    (edge.child == wanted.child) & (edge.partial == wanted.partial)
+    let edges = usize::from(wanted.count);
+    (aside.value || node.value == wanted.value)
+        && node.count == wanted.count
+        && node
+            .edges
+            .iter()
+            .take(edges)
+            .eq(wanted.edges.iter().take(edges))
 }

@@ -1,22 +1,16 @@
 // What is counted of a list. A count stops at its largest number, which no list reaches.
-
-use crate::tape_kinds::KINDS;
+use crate::kinds::KINDS;
 
 // What of a case is not held to the Rust's answer: its value, its partials.
-#[derive(Clone, Copy)]
+#[derive(Clone, Copy, Default)]
 pub struct Aside {
     pub value: bool,
     pub partials: bool,
 }
 
-pub const NOTHING: Aside = Aside {
-    value: false,
-    partials: false,
-};
-
 // Of one kind: how many cases there are, how many differ, and of how many the value and the partials are not held to
 // the Rust's.
-#[derive(Clone, Copy)]
+#[derive(Clone, Copy, Default)]
 pub struct Count {
     pub cases: u64,
     pub differ: u64,
@@ -24,14 +18,8 @@ pub struct Count {
     pub tie: u64,
 }
 
-const NONE: Count = Count {
-    cases: 0,
-    differ: 0,
-    apart: 0,
-    tie: 0,
-};
-
-#[derive(Clone, Copy)]
+// Forward numbers have fewer kinds than the tape.
+#[derive(Clone, Copy, Default)]
 pub struct Tally {
     pub lines: u64,
     pub malformed: u64,
@@ -42,71 +30,38 @@ pub struct Tally {
 }
 
 impl Tally {
-    pub(crate) fn empty() -> Tally {
-        let counts = [NONE; KINDS];
-        Tally {
-            lines: 0,
-            malformed: 0,
-            runs: 0,
-            broken_runs: 0,
-            slices: 0,
-            counts,
-        }
+    pub(crate) fn next_line(&mut self) {
+        self.lines = self.lines.saturating_add(1);
     }
 
-    pub(crate) fn next_line(mut self) -> Tally {
-        self.lines = raised(self.lines, true);
-        self
-    }
-
-    pub(crate) fn not_a_case(mut self) -> Tally {
-        self.malformed = raised(self.malformed, true);
-        self
+    pub(crate) fn not_a_case(&mut self) {
+        self.malformed = self.malformed.saturating_add(1);
     }
 
     // A whole sequence, and whether a line of it differs or is no call.
-    pub(crate) fn next_run(mut self, broken: bool) -> Tally {
-        self.runs = raised(self.runs, true);
+    pub(crate) fn next_run(&mut self, broken: bool) {
+        self.runs = self.runs.saturating_add(1);
         self.broken_runs = raised(self.broken_runs, broken);
-        self
     }
 
-    pub(crate) fn more_slices(mut self, taken: u64) -> Tally {
-        self.slices = sum(self.slices, taken);
-        self
+    pub(crate) fn more_slices(&mut self, taken: u64) {
+        self.slices = self.slices.saturating_add(taken);
     }
 
-    pub(crate) fn of(self, kind: usize) -> Count {
-        if kind >= KINDS {
-            return NONE;
-        }
-        let counts = self.counts;
-        counts[kind]
-    }
-
-    // One more case of a kind.
-    pub(crate) fn next_case(mut self, kind: usize, agrees: bool, aside: Aside) -> Tally {
-        if kind >= KINDS {
-            return self;
-        }
-        let count = self.of(kind);
-        self.counts[kind] = Count {
+    // One more case of the kind at this place.
+    pub(crate) fn next_case(&mut self, kind: usize, agrees: bool, aside: Aside) {
+        let Some(count) = self.counts.get_mut(kind) else {
+            return;
+        };
+        *count = Count {
             cases: raised(count.cases, true),
             differ: raised(count.differ, !agrees),
             apart: raised(count.apart, aside.value),
             tie: raised(count.tie, aside.partials),
         };
-        self
     }
 }
 
 fn raised(count: u64, by_one: bool) -> u64 {
-    sum(count, by_one as u64)
-}
-
-pub(crate) fn sum(count: u64, more: u64) -> u64 {
-    if more > u64::MAX - count {
-        return u64::MAX;
-    }
-    count + more
+    count.saturating_add(u64::from(by_one))
 }

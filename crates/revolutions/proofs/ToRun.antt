@@ -21,8 +21,8 @@ use Rattle.tape.specs.Passes.{Unrefused}
 use Rattle.tape.specs.declared.admission.Caller.{Caller}
 use Rattle.tape.specs.declared.admission.Caller.TheVariants as caller
 use Rattle.tape.specs.declared.tape.Tape.{Tape}
-use Rattle.tape.specs.declared.tape.Walk.{Walk}
-use Rattle.tape.specs.declared.tape.Walk.TheVariants.{Closed, Open}
+use Rattle.tape.specs.Machine.{Walk}
+use Rattle.std.specs.Prelude.{None, Some}
 use Rattle.tape.proofs.Passes.{Accepted, passes, answers, range_sound}
 use Rattle.tape.proofs.Steps.{mover_unlent, lives_so}
 use Rattle.tape.proofs.Tests.{Fit, refits, state_fit_so}
@@ -57,8 +57,8 @@ may_come rewind_to_mark = refl
 may_come rewind_to_init = refl
 
 start_turn : (w : Walk) → in_turn w (mover start) ≡ true
-start_turn Closed = refl
-start_turn (Open s) = refl
+start_turn None = refl
+start_turn (Some s) = refl
 
 module _ {N : Numbers} {A : Arrays N} {m first k j : ℕ} {L : Machine N} {t : Tape} (f : Fit (machine t A)) (s : Stands A m first k j L) where
   -- on such a machine every call is in its turn but a slice, and no move is refused

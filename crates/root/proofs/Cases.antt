@@ -1,26 +1,29 @@
 -- The cases of `sqrt`: NaN, the zeros, the infinities, the negatives, and the positive patterns. Assumes nothing.
+use mathlib.Core.Logic.{◌⊎◌, inl, inr}
 use mathlib.Core.Path.{◌≡◌, refl, sym, ap, ◌∙◌, subst}
 use Prim.Native.Nat.{ℕ, zero, suc, ◌+◌, ◌*◌, ◌/◌, ◌%◌, ◌^◌, ◌≤◌, ◌<◌}
 use native.Mathlib.Nat.{lt_irrefl, mul-pos, zero-mul, pos_of_ne-zero}
 use native.Mathlib.Omega.{arith}
-use mathlib.Core.Bool.{Bool, true, false, not, ◌||◌, cond, true≢false, false≢true}
-use borrow.Author.Tests.{eqb-true, eqb-false}
+use mathlib.Core.Bool.{Bool, true, false, not, cond, true≢false, false≢true}
 use lib.IntN.{ℤ}
 use lib.Dec.{T, leb, eqb, leb→le, nleb→lt, eqb→eq, ltb→lt, not_T}
 use lib.Arith.{lt_of_le-ne}
 use lib.Pow.{pow_pos}
 use lib.Ieee.{Float, nan, inf, fin, binary64, up, down, odd, ne, fits, is_nan, nan_bits, of_fields, of_bits, to_bits}
 use lib.Ieee.Bits.{of_bits-to_bits, nan_bits_above}
-use lib.Ieee.Compare.{differs_from_itself}
 use lib.Ieee.Fits.{down_pos}
 use lib.Ieee.Exact.{HasValue, odd_sign}
 use Rattle.root.specs.Root.{Units, NearestRoot, Root}
 use Rattle.root.proofs.Patterns.{of_bits_is, subnormal, normal}
 
 -- ---- NaN
-pub of_nan : (x : Float) → ne x x ≡ true → Root x x
-of_nan x e = subst (λ (z : Float). Root z z) (sym (differs_from_itself x (subst T (sym e) tt))) refl
+pub of_nan : (x : Float) → is_nan x ≡ true → Root x x
+unfolding is_nan
+of_nan nan e = refl
+of_nan (inf s) e = absurd (false≢true e)
+of_nan (fin s m d) e = absurd (false≢true e)
 
+-- for a test that is written out, as crate `forward` has it
 pub not_nan : (x : Float) → ne x x ≡ false → T (not (is_nan x))
 unfolding ne is_nan
 not_nan nan e = absurd (true≢false e)
@@ -34,41 +37,23 @@ read_back x b t e = sym (of_bits-to_bits binary64 x t) ∙ ap (λ (z : ℕ). of_
 itself : (x : Float) (b : ℕ) → T (fits binary64 x) → to_bits binary64 x ≡ b → Root (of_bits binary64 b) (of_bits binary64 b) → Root x x
 itself x b t e r = subst (λ (z : Float). Root z z) (sym (read_back x b t e)) r
 
--- the test for what is its own root, as the code has it
-abbrev pub own : ℕ → Bool
-own b = eqb b 0 || eqb b 0x8000_0000_0000_0000 || eqb b 0x7ff0_0000_0000_0000
+-- the patterns of what is its own root
+abbrev pub Own : ℕ → Type 0
+Own b = (b ≡ 0) ⊎ (b ≡ 0x7ff0_0000_0000_0000) ⊎ (b ≡ 0x8000_0000_0000_0000)
 
-one_of : {P : Type 0} (a b c : Bool) → (a ≡ true → P) → (b ≡ true → P) → (c ≡ true → P) → a || b || c ≡ true → P
-one_of true b c f g h e = f refl
-one_of false true c f g h e = g refl
-one_of false false true f g h e = h refl
-one_of false false false f g h e = absurd (false≢true e)
-
-pub of_own : (x : Float) → T (fits binary64 x) → own (to_bits binary64 x) ≡ true → Root x x
+pub of_own : (x : Float) → T (fits binary64 x) → Own (to_bits binary64 x) → Root x x
 unfolding of_bits
-of_own x t =
-    let b = to_bits binary64 x in
-    one_of (eqb b 0) (eqb b 0x8000_0000_0000_0000) (eqb b 0x7ff0_0000_0000_0000)
-    (λ e. itself x 0 t (eqb-true b 0 e) refl)
-    (λ e. itself x 0x8000_0000_0000_0000 t (eqb-true b 0x8000_0000_0000_0000 e) refl)
-    (λ e. itself x 0x7ff0_0000_0000_0000 t (eqb-true b 0x7ff0_0000_0000_0000 e) refl)
+of_own x t (inl e) = itself x 0 t e refl
+of_own x t (inr (inl e)) = itself x 0x7ff0_0000_0000_0000 t e refl
+of_own x t (inr (inr e)) = itself x 0x8000_0000_0000_0000 t e refl
 
-none_of : (a b c : Bool) → a || b || c ≡ false → (a ≡ false) × (b ≡ false) × (c ≡ false)
-none_of true b c e = absurd (true≢false e)
-none_of false true c e = absurd (true≢false e)
-none_of false false true e = absurd (true≢false e)
-none_of false false false e = (refl, refl, refl)
+-- a pattern that is none of these and not above that of +infinity
+pub between : (b : ℕ) → (Own b → ⊥) → b ≤ 0x7ff0_0000_0000_0000 → (0 < b) × (b < 0x7ff0_0000_0000_0000)
+between b n h = (pos_of_ne-zero (λ e. n (inl e)), lt_of_le-ne h (λ e. n (inr (inl e))))
 
-pub not_own : (b : ℕ) → own b ≡ false → (b ≡ 0 → ⊥) × (b ≡ 0x8000_0000_0000_0000 → ⊥) × (b ≡ 0x7ff0_0000_0000_0000 → ⊥)
-not_own b e =
-    let n = none_of (eqb b 0) (eqb b 0x8000_0000_0000_0000) (eqb b 0x7ff0_0000_0000_0000) e in
-    (eqb-false b 0 n.0, eqb-false b 0x8000_0000_0000_0000 n.1, eqb-false b 0x7ff0_0000_0000_0000 n.2)
+pub not_minus_zero : (b : ℕ) → (Own b → ⊥) → b ≡ 0x8000_0000_0000_0000 → ⊥
+not_minus_zero b n e = n (inr (inr e))
 
--- a pattern that is none of these and not above the last of them
-pub between : (b : ℕ) → own b ≡ false → b ≤ 0x7ff0_0000_0000_0000 → (0 < b) × (b < 0x7ff0_0000_0000_0000)
-between b e h = (pos_of_ne-zero (not_own b e).0, lt_of_le-ne h (not_own b e).2)
-
--- ---- the negatives
 pub no_value : (e : ℤ) (a c : ℕ) → 0 < a → zero * up e * c ≡ a * down e → ⊥
 no_value e a c h v = lt_irrefl 0 (subst (λ (z : ℕ). 0 < z) (sym v ∙ ap (λ (z : ℕ). z * c) (zero-mul (up e)) ∙ zero-mul c) (mul-pos h (down_pos e)))
 

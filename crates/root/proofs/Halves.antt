@@ -1,5 +1,5 @@
 -- The two halves of the root's digits: Newton's steps for the upper, one division for the lower. Assumes nothing.
-use mathlib.Core.Path.{◌≡◌, sym, ap, ◌∙◌, subst}
+use mathlib.Core.Path.{◌≡◌, sym, ap, ◌∙◌}
 use Prim.Native.Nat.{ℕ, zero, suc, ◌+◌, ◌-◌, ◌*◌, ◌/◌, ◌%◌, ◌^◌, ◌≤◌, ◌<◌}
 use native.Mathlib.Nat.{le_trans, le_of_eq, lt_of_lt_of_le, lt_of_not-le, zero-lt-suc, mul-le-mul, le_of_mul-le-mul_right, div-lt_iff_lt-mul, div-add-mod', mod-lt}
 use native.Mathlib.Omega.{arith}
@@ -11,9 +11,6 @@ positive m (suc r) h k = zero-lt-suc r
 
 pub quotient_lt : (m r : ℕ) → 0 < r → m < (r + 1) * (r + 1) → m / r < r + 3
 quotient_lt m r p h = (div-lt_iff_lt-mul p).1 (let k : m < (r + 3) * r = omega arith in k)
-
-pub step_down : (m r : ℕ) → 0 < r → m < r * r → m < (r - 1 + 1) * (r - 1 + 1)
-step_down m r p h = let e : r - 1 + 1 ≡ r = omega arith in subst (λ (z : ℕ). m < z * z) (sym e) h
 
 -- ---- a and b are below a power of two whose square is known
 pub square_small : (r k : ℕ) → r ≤ k → r * r ≤ k * k

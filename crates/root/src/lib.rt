@@ -15,17 +15,15 @@ pub fn sqrt(x: f64) -> f64
     ensures root { Root x result }
     ensures value { result ≡ root x }
 {
-    if x != x {
+    if x.is_nan() {
         return x;
     }
-    let b = f64::to_bits(x);
-    if (b == ZERO) | (b == MINUS_ZERO) | (b == INFINITY) {
-        return x;
+    let b = x.to_bits();
+    match b {
+        ZERO | MINUS_ZERO | INFINITY => x,
+        _ if b > INFINITY => f64::NAN,
+        _ => f64::from_bits(root_pattern(b)),
     }
-    if b > INFINITY {
-        return 0.0 / 0.0;
-    }
-    f64::from_bits(root_pattern(b))
 }
 
 // Patterns of doubles. Above that of +infinity stand those of NaN and of what has a sign.
@@ -49,7 +47,8 @@ fn root_pattern(b: u64) -> u64
     ensures { (NearestRoot (of_bits binary64 b) (of_bits binary64 result)) × (result < 0x7ff0_0000_0000_0000) }
 {
     let v = taken_apart(b);
-    let s = whole_root(v.m * (v.e % 2 + 1));
+    let m = v.m * (v.e % 2 + 1);
+    let s = Wide { m }.whole_root();
     (v.e / 2 + 485) * PLACE + (s + 1) / 2
 }
 
@@ -83,63 +82,70 @@ fn shifted_up(digits: u64) -> Scaled
     requires { (0 < digits) × (digits < 2 ^ 52) }
     ensures { (result.m * 2 ^ result.e ≡ digits * 2 ^ 52) × (2 ^ 52 ≤ result.m) × (result.m < 2 ^ 53) × (result.e ≤ 52) }
 {
-    let up = u64::leading_zeros(digits) - 11;
+    let up = digits.leading_zeros() - 11;
     Scaled {
         m: digits << up,
         e: (52 - up) as u64,
     }
 }
 
-// The whole part of the root of m * 2^54: the upper half of its digits is the root of m, and the lower half comes by
-// one division, and is at most one too large. What m * 2^54 has over s * s is u * 2^27 - q * q.
-fn whole_root(m: u64) -> u64
-    requires { (2 ^ 52 ≤ m) × (m < 2 ^ 54) }
-    ensures { (result * result ≤ m * 2 ^ 54) × (m * 2 ^ 54 < (result + 1) * (result + 1)) × (result < 2 ^ 54) }
-{
-    let a = half_root(m);
-    let left = (m - a * a) * HALF_PLACE;
-    let q = left / (a * 2);
-    let u = left % (a * 2);
-    let s = a * HALF_PLACE + q;
-    if u * HALF_PLACE < q * q { s - 1 } else { s }
+// A whole number m of 53 or 54 digits.
+#[derive(Clone, Copy)]
+struct Wide {
+    m: u64,
+    ghost at_least: { 2 ^ 52 ≤ m },
+    ghost below: { m < 2 ^ 54 },
+}
+
+impl Wide {
+    // The whole part of the root of m * 2^54: the upper half of its digits is the root of m, and the lower half comes by
+    // one division, and is at most one too large. What m * 2^54 has over s * s is u * 2^27 - q * q.
+    fn whole_root(self) -> u64
+        ensures { (result * result ≤ self.m * 2 ^ 54) × (self.m * 2 ^ 54 < (result + 1) * (result + 1)) × (result < 2 ^ 54) }
+    {
+        let a = self.half_root();
+        let left = (self.m - a * a) * HALF_PLACE;
+        let q = left / (a * 2);
+        let u = left % (a * 2);
+        let s = a * HALF_PLACE + q;
+        if u * HALF_PLACE < q * q { s - 1 } else { s }
+    }
+
+    // The whole part of the root of m. Two steps leave a guess that is at most one too large; that is reckoned and not
+    // proved, so a loop takes off what is too much.
+    fn half_root(self) -> u64
+        ensures { (result * result ≤ self.m) × (self.m < (result + 1) * (result + 1)) }
+    {
+        let mut r = self.closer(self.closer(self.guess()));
+        while self.m < r * r {
+            r -= 1;
+        }
+        r
+    }
+
+    // One step of Newton's method, which stays at the root's whole part or above.
+    fn closer(self, r: u64) -> u64
+        requires { (self.m < (r + 1) * (r + 1)) × (r < 2 ^ 29) }
+        ensures { (self.m < (result + 1) * (result + 1)) × (result ≤ r + 1) }
+    {
+        (r + self.m / r) / 2
+    }
+
+    // A first guess at the root of m: one step from the middle of the roots from 2^26 on, or of those from 2^26.5 on. It
+    // is written out, so that the compiler divides by a constant.
+    fn guess(self) -> u64
+        ensures { (self.m < (result + 1) * (result + 1)) × (result < 2 ^ 28) }
+    {
+        if self.m < TWICE_PLACE {
+            (LOWER_MIDDLE + self.m / LOWER_MIDDLE) / 2
+        } else {
+            (UPPER_MIDDLE + self.m / UPPER_MIDDLE) / 2
+        }
+    }
 }
 
 // 2^27: the root of 2^54.
 const HALF_PLACE: u64 = 0x800_0000;
-
-// The whole part of the root of m. Two steps leave a guess that is at most one too large; that is reckoned and not
-// proved, so a loop takes off what is too much.
-fn half_root(m: u64) -> u64
-    requires { (2 ^ 52 ≤ m) × (m < 2 ^ 54) }
-    ensures { (result * result ≤ m) × (m < (result + 1) * (result + 1)) }
-{
-    let mut r = closer(m, closer(m, guess(m)));
-    while m < r * r {
-        r -= 1;
-    }
-    r
-}
-
-// One step of Newton's method, which stays at the root's whole part or above.
-fn closer(m: u64, r: u64) -> u64
-    requires { (2 ^ 52 ≤ m) × (m < 2 ^ 54) × (m < (r + 1) * (r + 1)) × (r < 2 ^ 29) }
-    ensures { (m < (result + 1) * (result + 1)) × (result ≤ r + 1) }
-{
-    (r + m / r) / 2
-}
-
-// A first guess at the root of m: one step from the middle of the roots from 2^26 on, or of those from 2^26.5 on. It is
-// written out, so that the compiler divides by a constant.
-fn guess(m: u64) -> u64
-    requires { (2 ^ 52 ≤ m) × (m < 2 ^ 54) }
-    ensures { (m < (result + 1) * (result + 1)) × (result < 2 ^ 28) }
-{
-    if m < TWICE_PLACE {
-        (LOWER_MIDDLE + m / LOWER_MIDDLE) / 2
-    } else {
-        (UPPER_MIDDLE + m / UPPER_MIDDLE) / 2
-    }
-}
 
 const TWICE_PLACE: u64 = 2 * PLACE;
 

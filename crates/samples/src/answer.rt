@@ -1,32 +1,50 @@
 // The number that the export answers, taken apart.
-ghost use Rattle.std.specs.Prelude.{◌≤◌, length};
+use std::fmt;
 
 // What a refusal's number is multiplied by, so that the line can be added.
 const LINES: u64 = 16_777_216;
 
-pub(crate) fn refusal_of(number: u64) -> u64 {
-    number / LINES
+// Why a session is refused, in the export's own number, and at which line.
+#[derive(Clone, Copy)]
+pub struct Refused {
+    pub refusal: u64,
+    pub line: u64,
 }
 
-pub(crate) fn line_of(number: u64) -> u64 {
-    number % LINES
-}
-
-pub(crate) fn is_refused(number: u64) -> bool {
-    refusal_of(number) > 0
-}
-
-// How many of the lent bytes are the listing's: none at a refusal.
-pub(crate) fn listed(number: u64, lent: &[u8]) -> usize
-    ensures { result ≤ length lent.now }
-{
-    if is_refused(number) {
-        return 0;
+// How many bytes the listing has, or the refusal.
+pub(crate) fn taken_apart(number: u64) -> Result<u64, Refused> {
+    if number < LINES {
+        return Ok(number);
     }
-    let bytes = number as usize;
-    if bytes < lent.len() {
-        bytes
-    } else {
-        lent.len()
+    Err(Refused {
+        refusal: number / LINES,
+        line: number % LINES,
+    })
+}
+
+impl fmt::Display for Refused {
+    fn fmt<W: fmt::Write>(&self, f: &mut fmt::Formatter<W>) -> fmt::Result {
+        let Refused { refusal, line } = *self;
+        let words = in_words(refusal);
+        write!(f, "refused {refusal}{words} at line {line}")
+    }
+}
+
+// The export is C's: a refusal comes as a number.
+const STALE: u64 = 3;
+
+const FULL: u64 = 5;
+
+const TOO_LONG: u64 = 8;
+
+const MALFORMED: u64 = 9;
+
+fn in_words(refusal: u64) -> &'static str {
+    match refusal {
+        STALE => " (no such node)",
+        FULL => " (tape full)",
+        TOO_LONG => " (listing too long)",
+        MALFORMED => " (malformed)",
+        _ => "",
     }
 }

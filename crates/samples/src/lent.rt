@@ -8,37 +8,30 @@ const FILLING: u8 = 0xa5;
 
 // Runs the session into bytes that are filled before.
 pub(crate) fn run(text: &[u8], lent: &mut [u8]) -> u64 {
-    fill(lent);
-    session::ingthabor_session(text, lent) as u64
-}
-
-fn fill(bytes: &mut [u8]) {
-    for i in 0..bytes.len() {
-        bytes[i] = FILLING;
-    }
+    lent.fill(FILLING);
+    u64::from(session::ingthabor_session(text, lent))
 }
 
 pub(crate) fn is_filled(bytes: &[u8]) -> bool {
-    for i in 0..bytes.len() {
-        if bytes[i] != FILLING {
-            return false;
-        }
+    bytes.iter().all(|&byte| byte == FILLING)
+}
+
+// Leaves the bytes as the call left them.
+pub(crate) fn keep(_lent: &mut [u8]) {}
+
+// For a control, changes the last byte.
+pub(crate) fn spoil(lent: &mut [u8]) {
+    if let Some(last) = lent.last_mut() {
+        *last = 0;
     }
-    true
 }
 
 // One number for all bytes: each is put in by an exclusive or, and then the bits are stirred as the generator
-// xorshift64 does it.
+// xorshift64 does it. The programs replay and speed have the same; no crate that they share draws numbers.
 pub(crate) fn digest(bytes: &[u8]) -> u64 {
-    let mut sum = 0x9e37_79b9_7f4a_7c15;
-    for i in 0..bytes.len() {
-        sum = stirred(sum ^ wide(bytes[i]));
-    }
-    sum
-}
-
-fn wide(byte: u8) -> u64 {
-    byte as u64
+    bytes.iter().fold(0x9e37_79b9_7f4a_7c15, |sum, &byte| {
+        stirred(sum ^ u64::from(byte))
+    })
 }
 
 fn stirred(x: u64) -> u64 {

@@ -1,31 +1,27 @@
 -- A text is what `begins` and `is` say it is, and it comes apart at the first of a byte that the part before has not.
 use Prim.Native.Nat.{ℕ, suc, ◌-◌}
 use native.Mathlib.Omega.{arith}
-use mathlib.Core.Path.{◌≡◌, refl, sym, ap, subst}
-use mathlib.Core.Bool.{Bool, true, false, ◌&&◌, cond, and-eq-true_iff}
-use mathlib.Core.List.{List, [], ◌∷◌, ◌++◌, append-nil, append_assoc}
-use borrow.Author.Tests.{eqb-true, eqb-false, ne_eqb}
+use mathlib.Core.Path.{◌≡◌, refl, sym, ap, subst, ◌∙◌}
+use mathlib.Core.Bool.{Bool, true, ◌&&◌, cond, and-eq-true_iff}
+use mathlib.Core.List.{List, [], ◌∷◌, ◌++◌, append_assoc}
+use borrow.Author.Tests.{eqb-true, ne_eqb}
 use lib.Dec.{eqb}
-use lib.ListN.{length, get_or, take, drop, length-append}
-use lib.Seq.{take_at, drop_at, take-suc, take-length, drop-length}
+use lib.ListN.{length, take, drop, length-append, take-append-drop}
+use lib.Seq.{take_at, drop_at}
+use Rattle.std.specs.Str.{bytes_eq}
+use Rattle.std.proofs.lemmas.Slice.Eq.{bytes_eq-Decides}
 use Rattle.tape.proofs.Tests.{by_test}
 use Rattle.text.proofs.Without.{Without}
 use Rattle.session.specs.Inner.{find, begins, is}
 
+-- what `==` says of two texts
+bytes_same : (xs ys : List ℕ) → bytes_eq xs ys ≡ true → xs ≡ ys
+bytes_same xs ys = (bytes_eq-Decides xs ys).0
+
 -- ---- tests: what holds of the other text holds of one that passed as it
 
 begun : (start text : List ℕ) → begins start text ≡ true → start ++ drop (length start) text ≡ text
-begun [] text e = refl
-begun (x ∷ start) [] e = cc
-begun (x ∷ start) (y ∷ text) e =
-    let (first, rest) = (and-eq-true_iff (eqb y x) (begins start text)).0 e in
-    rw (eqb-true y x first) (ap (λ l. x ∷ l) (begun start text rest))
-
-same : (other text : List ℕ) → is other text ≡ true → other ≡ text
-same other text e =
-    let (start, long) = (and-eq-true_iff (begins other text) (eqb (length text) (length other))).0 e in
-    let l = eqb-true (length text) (length other) long in
-    rw (← l, drop-length text, append-nil other) at (begun other text start)
+begun start text e = ap (λ l. l ++ drop (length start) text) (sym (bytes_same (take (length start) text) start e)) ∙ take-append-drop (length start) text
 
 none_left : (text : List ℕ) → eqb (length text) 0 ≡ true → [] ≡ text
 none_left [] e = refl
@@ -39,7 +35,7 @@ module _ {A : Type 0} {x y : A} (P : List ℕ → A → Type 0) where
   by_start start text = by_same (begins start text) (start ++ drop (length start) text) text (begun start text)
 
   pub by_word : (other text : List ℕ) → P other x → P text y → P text (cond (is other text) x y)
-  by_word other text = by_same (is other text) other text (same other text)
+  by_word other text = by_same (is other text) other text (λ e. sym (bytes_same text other e))
 
   pub by_end : (text : List ℕ) → P [] x → P text y → P text (cond (eqb (length text) 0) x y)
   by_end text = by_same (eqb (length text) 0) [] text (none_left text)
@@ -52,7 +48,7 @@ by_last_word {x = x} P other text rest f g = by_test (P text rest) (is other tex
     passed : is other text && eqb (length rest) 0 ≡ true → P text rest x
     passed e =
         let (word, end) = (and-eq-true_iff (is other text) (eqb (length rest) 0)).0 e in
-        subst (λ l. P text l x) (none_left rest end) (subst (λ l. P l [] x) (same other text word) f)
+        subst (λ l. P text l x) (none_left rest end) (subst (λ l. P l [] x) (sym (bytes_same text other word)) f)
 
 -- ---- where a text comes apart
 
@@ -72,15 +68,10 @@ apart f x front rest w e =
 pub last_of : (body : List ℕ) (x : ℕ) → length (body ++ (x ∷ [])) - 1 ≡ length body
 last_of body x = omega (arith, length-append body (x ∷ []))
 
-pub not_none : (body : List ℕ) (x : ℕ) → eqb (length (body ++ (x ∷ []))) 0 ≡ false
-not_none body x = ne_eqb (length (body ++ (x ∷ []))) 0 (λ e. omega (arith, length-append body (x ∷ [])))
-
-pub with_last : (text : List ℕ) (x : ℕ) → eqb (length text) 0 ≡ false → eqb (get_or text (length text - 1) 0) x ≡ true → take (length text - 1) text ++ (x ∷ []) ≡ text
-with_last text x e f =
-    let some = eqb-false (length text) 0 e in
+pub with_last : (text : List ℕ) (x : ℕ) → bytes_eq (drop (length text - 1) text) (x ∷ []) ≡ true → take (length text - 1) text ++ (x ∷ []) ≡ text
+with_last text x e =
     let last = length text - 1 in
-    let all : suc last ≡ length text = omega arith in
-    rw (← eqb-true (get_or text last 0) x f, ← take-suc text last 0 (omega arith), all) (take-length text)
+    ap (λ l. take last text ++ l) (sym (bytes_same (drop last text) (x ∷ []) e)) ∙ take-append-drop last text
 
 -- ---- from the left, as texts are written, and part by part, as they are read
 

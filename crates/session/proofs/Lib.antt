@@ -1,7 +1,6 @@
--- `Reader` has the inverse of the lines' texts, by `Back` and `Only`; `Scans`, `Made`, `Turns`, `Reported` and `Answered`
--- serve the functions.
+-- `Reader` has the inverse of the lines' texts, by `Back` and `Only`; `Scans`, `Turns`, `Reported` and `Answered` serve the
+-- functions.
 mod Scans
-mod Made
 mod Turns
 mod Reported
 mod Bytes

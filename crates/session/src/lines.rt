@@ -1,69 +1,56 @@
 // The lines of a session file, read and run in turn.
-ghost use Rattle.std.specs.Prelude.{◌+◌, ◌≤◌, ◌≡◌, length, drop};
-ghost use Rattle.tape.specs.Machine.{machine, lent_arrays};
-ghost use Rattle.session.specs.Session.{lines, run_lines, most_session};
-ghost use Rattle.session.specs.Inner.{reading, line_length, came_to, SmallLine};
+ghost use Rattle.std.specs.Prelude.{◌≤◌, ◌<◌, ◌≡◌, length, IfErr};
+ghost use Rattle.tape.specs.Machine.{SameArrays, machine, lent_mut};
+ghost use Rattle.tape.specs.Answers.{outcome};
+ghost use Rattle.session.specs.Session.{lines, run_read, run_lines, most_session, least_refusal};
+ghost use Rattle.session.specs.Inner.{reading, came_to, told};
 
-use crate::reading::{find, read_line};
+use crate::reading::read_line;
 use crate::running::run_line;
-use tape::Tape;
+use tape::{NodesMut, Refusal, Tape};
 
-// What the lines came to: the state after the last, or the number of the first refusal and its line.
+// Why a session was refused, and at which line; at line 0 where no line is at fault, since the answer's number adds it as
+// it stands. That it is small stands in the promises, whose definitions speak of every stop.
 #[derive(Clone, Copy)]
-pub(crate) enum Outcome {
-    Ended(Tape),
-    Stopped(u8, u32),
+pub(crate) struct Stop {
+    pub refusal: Refusal,
+    pub line: u32,
 }
 
+// The state after the last line, or where the first refusal stopped them.
 pub(crate) fn run_lines(
     session: &[u8],
     tape: Tape,
-    value: &mut [f64],
+    nodes: &mut NodesMut<'_>,
     adjoint: &mut [f64],
-    serial: &mut [u64],
-    count: &mut [u8],
-    child: &mut [u16],
-    partial: &mut [f64],
-) -> Outcome
+) -> Result<Tape, Stop>
     requires { length session.now ≤ most_session }
-    ensures { (came_to result (lent_arrays value.new adjoint.new serial.new count.new child.new partial.new)
-        ≡ run_lines reading 1 (lines session.now) (machine tape (lent_arrays value.old adjoint.old serial.old count.old child.old partial.old)))
-        × SmallLine result }
+    ensures whole { came_to result (lent_mut nodes.new adjoint.new)
+        ≡ run_lines reading 1 (lines session.now) (machine tape (lent_mut nodes.old adjoint.old)) }
+    ensures small { IfErr result (λ s. s.line < least_refusal) }
+    ensures same { SameArrays nodes.old nodes.new }
 {
     let mut state = tape;
-    let mut at = 0;
-    let mut line = 1;
-    while at < session.len() {
-        let end = line_end(session, at);
-        let ran = run_line(
-            read_line(&session[at..end]),
-            state,
-            value,
-            adjoint,
-            serial,
-            count,
-            child,
-            partial,
-        );
-        if ran.number != 0 {
-            return Outcome::Stopped(ran.number, line);
-        }
-        state = ran.tape;
-        at = end;
-        line += 1;
+    for (line, text) in (1..).zip(session.split_inclusive(|byte| *byte == b'\n')) {
+        state = read_and_run(text, state, nodes, adjoint).map_err(|refusal| Stop {
+            refusal,
+            line,
+        })?;
     }
-    Outcome::Ended(state)
+    Ok(state)
 }
 
-// Where the line that begins at `at` ends: behind its line feed or, if it has none, at the end.
-fn line_end(session: &[u8], at: usize) -> usize
-    requires { at ≤ length session.now }
-    ensures { result ≡ at + line_length (drop at session.now) }
+// A line is read whole before it runs; what is no line is refused 9.
+fn read_and_run(
+    text: &[u8],
+    tape: Tape,
+    nodes: &mut NodesMut<'_>,
+    adjoint: &mut [f64],
+) -> Result<Tape, Refusal>
+    ensures step { told (outcome result tape (lent_mut nodes.new adjoint.new))
+        ≡ told (run_read (reading text.now) (machine tape (lent_mut nodes.old adjoint.old))) }
+    ensures same { SameArrays nodes.old nodes.new }
 {
-    let rest = &session[at..];
-    let feed = find(rest, b'\n');
-    if feed == rest.len() {
-        return session.len();
-    }
-    at + feed + 1
+    let line = read_line(text).ok_or(Refusal::Malformed)?;
+    run_line(line, tape, nodes, adjoint)
 }

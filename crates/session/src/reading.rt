@@ -1,8 +1,10 @@
-// One line of a session file, out of its bytes.
-ghost use Rattle.std.specs.Prelude.{◌≤◌, ◌≡◌, length};
-ghost use Rattle.session.specs.Inner.{find, begins, is, node_in, number_in, source_in, leaf_of, pass_named, word, pass_line, two_sided, with_left, operation, words, read_line};
+// One line of a session file, out of its bytes: `None` where it is malformed.
+ghost use Rattle.std.specs.Prelude.{◌≡◌, ◌==◌, position, take, drop};
+ghost use Rattle.std.specs.Str.{bytes_eq};
+ghost use Rattle.text.specs.Parsed.{read_decimal};
+ghost use Rattle.session.specs.Inner.{find, source_in, leaf_of, pass_named, word, pass_line, two_sided, with_left, operation, words, read_line};
 
-use text::{Parsed, read_decimal, read_hex};
+use text::{read_decimal, read_hex};
 
 // An operand as it is written: the node of an index, or the number of a pattern.
 #[derive(Clone, Copy)]
@@ -11,18 +13,11 @@ pub(crate) enum Source {
     Number(u64),
 }
 
-// What stands where an operand should.
-#[derive(Clone, Copy)]
-pub(crate) enum Sourced {
-    Source(Source),
-    Malformed,
-}
-
 // What a line says, under the names that it has in the file.
 #[derive(Clone, Copy)]
 pub(crate) enum Line {
     Leaf(u64),
-    // Operations 1 to 6.
+    // Operations 1 to 6, by the byte that the file has and `record` takes.
     Op(u8, Source, Source),
     Op7(Source),
     Op10(Source),
@@ -35,216 +30,147 @@ pub(crate) enum Line {
     PassTomark(usize),
     PassTostart(usize),
     PassRest,
-    Malformed,
 }
 
 // Reads a line, its line feed included, to its end.
-pub(crate) fn read_line(line: &[u8]) -> Line
+pub(crate) fn read_line(line: &[u8]) -> Option<Line>
     ensures { result ≡ read_line line.now }
 {
-    let length = line.len();
-    if length == 0 {
-        return Line::Malformed;
-    }
-    let last = length - 1;
-    if line[last] != b'\n' {
-        return Line::Malformed;
-    }
-    read_words(&line[..last])
-}
-
-// Where the first such byte stands, or the length if there is none.
-pub(crate) fn find(text: &[u8], byte: u8) -> usize
-    ensures { result ≡ find byte text.now }
-{
-    let mut i = 0;
-    while i < text.len() {
-        if text[i] == byte {
-            return i;
-        }
-        i += 1;
-    }
-    i
+    let text = line.strip_suffix(b"\n")?;
+    read_words(text)
 }
 
 // A line is one word, or a first word and, from its space on, the rest.
-fn read_words(text: &[u8]) -> Line
+fn read_words(text: &[u8]) -> Option<Line>
     ensures { result ≡ words text.now }
 {
-    let end = find(text, b' ');
-    let first = &text[..end];
-    let rest = &text[end..];
-    if rest.len() == 0 {
-        return read_word(first);
+    let (first, rest) = cut_at(text, b' ');
+    if rest.is_empty() {
+        read_word(first)
+    } else if let Some(number) = first.strip_prefix(b"op=") {
+        read_operation(number, rest)
+    } else {
+        read_pass(first, rest)
     }
-    if begins(first, b"op=") {
-        return read_operation(&first[3..], rest);
-    }
-    read_pass(first, rest)
 }
 
-fn read_word(first: &[u8]) -> Line
+fn read_word(first: &[u8]) -> Option<Line>
     ensures { result ≡ word first.now }
 {
     if is(first, b"mark=set") {
-        return Line::MarkSet;
+        Some(Line::MarkSet)
+    } else if is(first, b"mark=reset") {
+        Some(Line::MarkReset)
+    } else if is(first, b"rewind=mark") {
+        Some(Line::RewindMark)
+    } else if is(first, b"rewind=init") {
+        Some(Line::RewindInit)
+    } else if is(first, b"clear=adj") {
+        Some(Line::ClearAdj)
+    } else if is(first, b"pass=rest") {
+        Some(Line::PassRest)
+    } else {
+        read_leaf(first)
     }
-    if is(first, b"mark=reset") {
-        return Line::MarkReset;
-    }
-    if is(first, b"rewind=mark") {
-        return Line::RewindMark;
-    }
-    if is(first, b"rewind=init") {
-        return Line::RewindInit;
-    }
-    if is(first, b"clear=adj") {
-        return Line::ClearAdj;
-    }
-    if is(first, b"pass=rest") {
-        return Line::PassRest;
-    }
-    if begins(first, b"leaf=") {
-        return read_leaf(&first[5..]);
-    }
-    Line::Malformed
 }
 
-fn read_leaf(digits: &[u8]) -> Line
-    ensures { result ≡ leaf_of digits.now }
+fn read_leaf(first: &[u8]) -> Option<Line>
+    ensures { result ≡ leaf_of first.now }
 {
-    match read_hex(digits) {
-        Parsed::Number(bits) => Line::Leaf(bits),
-        Parsed::NotANumber => Line::Malformed,
-    }
+    read_hex(first.strip_prefix(b"leaf=")?).map(Line::Leaf)
 }
 
-fn read_pass(first: &[u8], rest: &[u8]) -> Line
+fn read_pass(first: &[u8], rest: &[u8]) -> Option<Line>
     ensures { result ≡ pass_line first.now rest.now }
 {
-    if !begins(rest, b" root=") {
-        return Line::Malformed;
-    }
-    match read_decimal(&rest[6..], INDEX_DIGITS) {
-        Parsed::Number(root) => pass_from(first, root as usize),
-        Parsed::NotANumber => Line::Malformed,
-    }
+    let root = read_index(rest.strip_prefix(b" root=")?)?;
+    pass_from(first, root)
 }
 
-fn pass_from(first: &[u8], root: usize) -> Line
+fn pass_from(first: &[u8], root: usize) -> Option<Line>
     ensures { result ≡ pass_named first.now root }
 {
     if is(first, b"pass=back") {
-        return Line::PassBack(root);
+        Some(Line::PassBack(root))
+    } else if is(first, b"pass=tomark") {
+        Some(Line::PassTomark(root))
+    } else if is(first, b"pass=tostart") {
+        Some(Line::PassTostart(root))
+    } else {
+        None
     }
-    if is(first, b"pass=tomark") {
-        return Line::PassTomark(root);
-    }
-    if is(first, b"pass=tostart") {
-        return Line::PassTostart(root);
-    }
-    Line::Malformed
 }
 
 // An operation's number, and from the space behind it on its operands.
-fn read_operation(number: &[u8], rest: &[u8]) -> Line
+fn read_operation(number: &[u8], rest: &[u8]) -> Option<Line>
     ensures { result ≡ operation number.now rest.now }
 {
-    if !begins(rest, b" left=") {
-        return Line::Malformed;
-    }
-    let operands = &rest[6..];
-    let end = find(operands, b' ');
-    let left = read_source(&operands[..end]);
-    match left {
-        Sourced::Source(source) => read_with_left(number, source, &operands[end..]),
-        Sourced::Malformed => Line::Malformed,
+    let (left, rest) = cut_at(rest.strip_prefix(b" left=")?, b' ');
+    let left = read_source(left)?;
+    read_with_left(number, left, rest)
+}
+
+fn read_with_left(number: &[u8], left: Source, rest: &[u8]) -> Option<Line>
+    ensures { result ≡ with_left number.now rest.now left }
+{
+    if is(number, b"7") && rest.is_empty() {
+        Some(Line::Op7(left))
+    } else if is(number, b"10") && rest.is_empty() {
+        Some(Line::Op10(left))
+    } else {
+        read_two_sided(read_decimal(number, 1)?, left, rest)
     }
 }
 
-fn read_with_left(number: &[u8], left: Source, rest: &[u8]) -> Line
-    ensures { result ≡ with_left number.now left rest.now }
+fn read_two_sided(op: u64, left: Source, rest: &[u8]) -> Option<Line>
+    ensures { result ≡ two_sided left rest.now op }
 {
-    if is(number, b"7") & (rest.len() == 0) {
-        return Line::Op7(left);
-    }
-    if is(number, b"10") & (rest.len() == 0) {
-        return Line::Op10(left);
-    }
-    match read_decimal(number, 1) {
-        Parsed::Number(k) => read_two_sided(k, left, rest),
-        Parsed::NotANumber => Line::Malformed,
-    }
-}
-
-fn read_two_sided(k: u64, left: Source, rest: &[u8]) -> Line
-    ensures { result ≡ two_sided k left rest.now }
-{
-    if !((1 <= k) & (k <= 6)) {
-        return Line::Malformed;
-    }
-    if !begins(rest, b" right=") {
-        return Line::Malformed;
-    }
-    let right = read_source(&rest[7..]);
-    match right {
-        Sourced::Source(source) => Line::Op(k as u8, left, source),
-        Sourced::Malformed => Line::Malformed,
+    if 1 <= op && op <= 6 {
+        let right = read_source(rest.strip_prefix(b" right=")?)?;
+        Some(Line::Op(op as u8, left, right))
+    } else {
+        None
     }
 }
 
 // Indexes and roots have at most so many digits.
 const INDEX_DIGITS: usize = 5;
 
-fn read_source(text: &[u8]) -> Sourced
+fn read_source(text: &[u8]) -> Option<Source>
     ensures { result ≡ source_in text.now }
 {
-    if begins(text, b"n") {
-        return node_of(&text[1..]);
-    }
-    if begins(text, b"c") {
-        return number_of(&text[1..]);
-    }
-    Sourced::Malformed
-}
-
-fn node_of(digits: &[u8]) -> Sourced
-    ensures { result ≡ node_in digits.now }
-{
-    match read_decimal(digits, INDEX_DIGITS) {
-        Parsed::Number(index) => Sourced::Source(Source::Node(index as usize)),
-        Parsed::NotANumber => Sourced::Malformed,
+    match text {
+        [b'n', index @ ..] => read_index(index).map(Source::Node),
+        [b'c', pattern @ ..] => read_hex(pattern).map(Source::Number),
+        _ => None,
     }
 }
 
-fn number_of(digits: &[u8]) -> Sourced
-    ensures { result ≡ number_in digits.now }
+fn read_index(digits: &[u8]) -> Option<usize>
+    ensures { result ≡ read_decimal 5 digits.now }
 {
-    match read_hex(digits) {
-        Parsed::Number(bits) => Sourced::Source(Source::Number(bits)),
-        Parsed::NotANumber => Sourced::Malformed,
-    }
+    read_decimal(digits, INDEX_DIGITS).map(|index| index as usize)
 }
 
-// Whether a text is this one.
-fn is(text: &[u8], other: &[u8]) -> bool
-    ensures { result ≡ is other.now text.now }
+// The text up to the first such byte, and from it on; the whole text where there is none.
+fn cut_at(text: &[u8], byte: u8) -> (&[u8], &[u8])
+    ensures front { result.0.now ≡ take (find byte text.now) text.now }
+    ensures back { result.1.now ≡ drop (find byte text.now) text.now }
 {
-    begins(text, other) & (text.len() == other.len())
+    let end = first_at(text, byte).unwrap_or(text.len());
+    text.split_at(end)
 }
 
-fn begins(text: &[u8], start: &[u8]) -> bool
-    ensures { result ≡ begins start.now text.now }
+fn first_at(text: &[u8], byte: u8) -> Option<usize>
+    ensures { result ≡ position (λ b. b == byte) text.now }
 {
-    if text.len() < start.len() {
-        return false;
-    }
-    let mut i = 0;
-    while i < start.len() {
-        if text[i] != start[i] {
-            return false;
-        }
-        i += 1;
-    }
-    true
+    text.iter().position(|b| *b == byte)
+}
+
+// Whether a text is this word. A slice and a byte string have no `==`, and a `match` on byte strings says nothing of the
+// words that are not there but byte by byte, in some fifty cases.
+fn is(text: &[u8], word: &[u8]) -> bool
+    ensures { result ≡ bytes_eq text.now word.now }
+{
+    text == word
 }

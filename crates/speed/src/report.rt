@@ -1,5 +1,6 @@
 // What a run comes to: how many edges its last walk visited, and a digest of the values and of the adjoints that it
 // left; or a digest of square roots; or the length of a listing, and a digest of the lent bytes.
+use crate::listings::LISTING_BYTES;
 use crate::plan::{Reach, SEED, next};
 use crate::roots::Sort;
 use listing::bits_of;
@@ -13,76 +14,36 @@ pub(crate) fn rounds(
     value: &[f64],
     adjoint: &[f64],
 ) -> io::Result<()> {
-    name(rt, reach)?;
-    number(rt, b" times=", times)?;
-    number(rt, b" nodes=", value.len() as u64)?;
-    number(rt, b" edges=", edges as u64)?;
-    text(rt, b" values=")?;
-    print!(rt; "{:016x}", digest(value))?;
-    text(rt, b" adjoints=")?;
-    print!(rt; "{:016x}", digest(adjoint))?;
-    text(rt, b"\n")
+    let nodes = value.len();
+    let values = digest(value);
+    let adjoints = digest(adjoint);
+    println!(rt;
+        "{reach} times={times} nodes={nodes} edges={edges} values={values:016x} adjoints={adjoints:016x}"
+    )
 }
 
 pub(crate) fn roots(rt: &impl Print, sort: Sort, times: u64, digest: u64) -> io::Result<()> {
-    name_of_sort(rt, sort)?;
-    number(rt, b" times=", times)?;
-    text(rt, b" digest=")?;
-    print!(rt; "{digest:016x}")?;
-    text(rt, b"\n")
+    println!(rt; "{sort} times={times} digest={digest:016x}")
 }
 
-pub(crate) fn listing(rt: &impl Print, times: u64, bytes: usize, out: &[u8]) -> io::Result<()> {
-    text(rt, b"listing")?;
-    number(rt, b" times=", times)?;
-    number(rt, b" bytes=", bytes as u64)?;
-    text(rt, b" digest=")?;
-    print!(rt; "{:016x}", digest_of_bytes(out))?;
-    text(rt, b"\n")
-}
-
-fn name_of_sort(rt: &impl Print, sort: Sort) -> io::Result<()> {
-    match sort {
-        Sort::Doubles => text(rt, b"doubles"),
-        Sort::Subnormals => text(rt, b"subnormals"),
-        Sort::Idle => text(rt, b"idle"),
-    }
-}
-
-fn name(rt: &impl Print, reach: Reach) -> io::Result<()> {
-    match reach {
-        Reach::Near => text(rt, b"near"),
-        Reach::Anywhere => text(rt, b"anywhere"),
-        Reach::Regular => text(rt, b"regular"),
-    }
+pub(crate) fn listing(
+    rt: &impl Print,
+    times: u64,
+    bytes: usize,
+    out: &[u8; LISTING_BYTES],
+) -> io::Result<()> {
+    let digest = digest_of_bytes(out);
+    println!(rt; "listing times={times} bytes={bytes} digest={digest:016x}")
 }
 
 // As the recorded sequences have it (docs/REPLAY.md).
 fn digest(floats: &[f64]) -> u64 {
-    let mut sum = SEED;
-    for i in 0..floats.len() {
-        sum = next(sum ^ bits_of(floats[i]));
-    }
-    sum
+    floats.iter().fold(SEED, |sum, &x| next(sum ^ bits_of(x)))
 }
 
+// One fold for floats and one for bytes: a generic one would ask two things of its closure.
 fn digest_of_bytes(bytes: &[u8]) -> u64 {
-    let mut sum = SEED;
-    for i in 0..bytes.len() {
-        sum = with_byte(sum, bytes[i]);
-    }
-    sum
-}
-
-fn with_byte(sum: u64, byte: u8) -> u64 {
-    next(sum ^ byte as u64)
-}
-
-fn number(rt: &impl Print, label: &[u8], x: u64) -> io::Result<()> {
-    text(rt, label)?;
-    print!(rt; "{x}")
-}
-
-fn text(rt: &impl Print, bytes: &[u8]) -> io::Result<()> {
-    rt.write_all(bytes)
+    bytes
+        .iter()
+        .fold(SEED, |sum, &byte| next(sum ^ u64::from(byte)))
 }

@@ -1,12 +1,18 @@
 // A round: the tape is rewound, filled by its plan, and walked from its last node.
-ghost use Rattle.std.specs.Prelude.{◌<◌};
-ghost use Rattle.tape.specs.Machine.{most_nodes};
-
-use crate::plan::{NODES, left_of, op_of, right_of};
-use dual::Passed;
+use crate::plan;
+use crate::plan::{NODES, PLACES, Reach, Recording};
+use dual::passes::backward;
+use expr::Supplied;
 use expr::recording::record;
-use expr::{Recorded, Supplied};
-use tape::{Handle, Moved, Operand, Tape};
+use tape::{Handle, NodesMut, Operand, Refusal, Tape};
+
+// What the keeper of the tape has: the plan, and the serials of its handles, whose indexes are the places where it keeps
+// them.
+#[derive(Drop)]
+struct Keeper<'a> {
+    plan: &'a [Recording; NODES],
+    serials: &'a mut [u64; PLACES],
+}
 
 // The tape after a round, and the edges that its walk visited.
 #[derive(Clone, Copy)]
@@ -15,152 +21,75 @@ pub struct Round {
     pub edges: u32,
 }
 
-// As many rounds as asked for, and the edges that the last walk visited. Nothing is cleared between them.
+// As many rounds as asked for, and what the last one came to. Nothing is cleared between them.
 pub(crate) fn repeat(
+    reach: Reach,
     times: u64,
-    value: &mut [f64],
+    nodes: &mut NodesMut<'_>,
     adjoint: &mut [f64],
-    serial: &mut [u64],
-    count: &mut [u8],
-    child: &mut [u16],
-    partial: &mut [f64],
-    word: &[u64; NODES],
-    plain: &[f64; NODES],
-    serials: &mut [u64; NODES],
-) -> u32 {
+) -> Result<Round, Refusal> {
+    let mut plan = [Recording::leaf(0.0); NODES];
+    plan::lay_out(reach, &mut plan);
+    let mut serials = [0; PLACES];
+    let mut keeper = Keeper {
+        plan: &plan,
+        serials: &mut serials,
+    };
     let mut done = Round {
-        tape: moved(Tape::new().start_recording()),
+        tape: Tape::new().start_recording()?,
         edges: 0,
     };
     for _ in 0..times {
-        done = one_more(
-            done, value, adjoint, serial, count, child, partial, word, plain, serials,
-        );
+        done = keeper.one_more(done.tape, nodes, adjoint)?;
     }
-    done.edges
+    Ok(done)
 }
 
-fn one_more(
-    before: Round,
-    value: &mut [f64],
-    adjoint: &mut [f64],
-    serial: &mut [u64],
-    count: &mut [u8],
-    child: &mut [u16],
-    partial: &mut [f64],
-    word: &[u64; NODES],
-    plain: &[f64; NODES],
-    serials: &mut [u64; NODES],
-) -> Round {
-    let start = before.tape;
-    let tape = record_all(
-        start, value, adjoint, serial, count, child, partial, word, plain, serials,
-    );
-    let edges = walk(
-        tape, value, adjoint, serial, count, child, partial, &*serials,
-    );
-    Round { tape, edges }
-}
-
-fn record_all(
-    before: Tape,
-    value: &mut [f64],
-    adjoint: &mut [f64],
-    serial: &mut [u64],
-    count: &mut [u8],
-    child: &mut [u16],
-    partial: &mut [f64],
-    word: &[u64; NODES],
-    plain: &[f64; NODES],
-    serials: &mut [u64; NODES],
-) -> Tape {
-    let mut tape = moved(before.rewind_to_init());
-    for i in 0..NODES {
-        tape = record_one(
-            tape, value, adjoint, serial, count, child, partial, i, word[i], plain[i], serials,
-        );
+impl Keeper<'_> {
+    fn one_more(
+        &mut self,
+        before: Tape,
+        nodes: &mut NodesMut<'_>,
+        adjoint: &mut [f64],
+    ) -> Result<Round, Refusal> {
+        let tape = self.record_all(before, nodes, adjoint)?;
+        let last = operand(Some(LAST), 0.0, &*self.serials);
+        let edges = backward(tape, nodes.shared(), adjoint, last)?;
+        Ok(Round { tape, edges })
     }
-    tape
-}
 
-fn record_one(
-    tape: Tape,
-    value: &mut [f64],
-    adjoint: &mut [f64],
-    serial: &mut [u64],
-    count: &mut [u8],
-    child: &mut [u16],
-    partial: &mut [f64],
-    i: usize,
-    word: u64,
-    plain: f64,
-    serials: &mut [u64; NODES],
-) -> Tape
-    requires { i < most_nodes }
-{
-    let l = operand(left_of(word), plain, &*serials);
-    let r = operand(right_of(word), plain, &*serials);
-    let answer = record(
-        tape,
-        value,
-        adjoint,
-        serial,
-        count,
-        child,
-        partial,
-        op_of(word),
-        l,
-        r,
-        Supplied::NONE,
-    );
-    kept(answer, i, serials)
-}
-
-// The caller keeps the serials of its handles; their indexes are the places where it keeps them.
-fn kept(answer: Recorded, i: usize, serials: &mut [u64; NODES]) -> Tape
-    requires { i < most_nodes }
-{
-    match answer {
-        Recorded::Node(_, handle, after) => {
-            serials[i] = handle.serial;
-            after
+    fn record_all(
+        &mut self,
+        before: Tape,
+        nodes: &mut NodesMut<'_>,
+        adjoint: &mut [f64],
+    ) -> Result<Tape, Refusal> {
+        let plan = self.plan;
+        let mut tape = before.rewind_to_init()?;
+        for (i, &node) in plan.iter().enumerate() {
+            let left = operand(node.left, node.plain, &*self.serials);
+            let right = operand(node.right, node.plain, &*self.serials);
+            let none = Supplied::NONE;
+            let recorded = record(tape, nodes, adjoint, node.op, left, right, none)?;
+            if let Some(handle) = recorded.handle {
+                self.serials[i] = handle.serial;
+            }
+            tape = recorded.tape;
         }
-        Recorded::Detached(_, after) => after,
-        Recorded::Refused(_, after) => after,
+        Ok(tape)
     }
 }
 
-fn walk(
-    tape: Tape,
-    value: &[f64],
-    adjoint: &mut [f64],
-    serial: &[u64],
-    count: &[u8],
-    child: &[u16],
-    partial: &[f64],
-    serials: &[u64; NODES],
-) -> u32 {
-    let last = operand(NODES - 1, 0.0, serials);
-    match dual::passes::backward(tape, value, adjoint, serial, count, child, partial, last) {
-        Passed::Visited(edges) => edges,
-        Passed::Refused(_) => 0,
+// The node at a place, or else the plain number.
+fn operand(at: Option<u16>, plain: f64, serials: &[u64; PLACES]) -> Operand {
+    match at {
+        Some(at) => Operand::Node(Handle {
+            index: at as usize,
+            serial: serials[at as usize],
+        }),
+        None => Operand::Number(plain),
     }
 }
 
-// The node at a place, or the plain number where that is no node's place.
-fn operand(index: usize, plain: f64, serials: &[u64; NODES]) -> Operand {
-    if index < NODES {
-        return Operand::Node(Handle {
-            index,
-            serial: serials[index],
-        });
-    }
-    Operand::Number(plain)
-}
-
-pub(crate) fn moved(answer: Moved) -> Tape {
-    match answer {
-        Moved::Done(tape) => tape,
-        Moved::Refused(_, tape) => tape,
-    }
-}
+// The last node's place.
+const LAST: u16 = NODES as u16 - 1;

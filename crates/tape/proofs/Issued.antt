@@ -25,8 +25,8 @@ use Rattle.tape.specs.declared.errors.Refusal.TheVariants.{Stale, NeverIssued}
 use Rattle.tape.specs.declared.node.Handle.{Handle}
 use Rattle.tape.specs.declared.node.Lookup.TheVariants as lookup
 use Rattle.tape.specs.declared.tape.Tape.{Tape}
-use Rattle.tape.specs.declared.tape.Walk.{Walk}
-use Rattle.tape.specs.declared.tape.Walk.TheVariants.{Closed, Open}
+use Rattle.tape.specs.Machine.{Walk}
+use Rattle.std.specs.Prelude.{None, Some}
 use Rattle.tape.proofs.OneToOne.{never_nought, one_to_one}
 use Rattle.tape.proofs.Passes.{carried_number}
 use Rattle.tape.proofs.Recording.{recording}
@@ -105,8 +105,8 @@ module _ {N : Numbers} (c : Call N) (M : Machine N) where
 
 -- a read of a value and is_live are let in alike
 same_turn : (w : Walk) → in_turn w caller.Value ≡ in_turn w caller.Liveness
-same_turn Closed = refl
-same_turn (Open s) = refl
+same_turn None = refl
+same_turn (Some s) = refl
 
 abbrev counts : Bool → Bool → ℕ
 counts l n = counted_as (cond l lookup.Live (cond n lookup.NeverIssued lookup.Stale))

@@ -7,17 +7,16 @@ use native.Mathlib.Omega.{arith}
 use Rattle.tape.specs.Handles.{lives, usable_as}
 use Rattle.tape.specs.declared.errors.Refusal.{Refusal}
 use Rattle.tape.specs.declared.node.Handle.{Handle}
-use Rattle.tape.specs.declared.node.Usable.{Usable}
-use Rattle.tape.specs.declared.node.Usable.TheVariants.{Live, Refused}
+use Rattle.std.specs.Prelude.{Result, Ok, Err}
 use Rattle.tape.specs.declared.tape.Tape.{Tape}
 use Rattle.tape.proofs.Steps.{lives_parts}
 
-by_answer : (b : Bool) (r : Refusal) → cond b Live (Refused r) ≡ Live → b ≡ true
+by_answer : (b : Bool) (r : Refusal) → ◌≡◌ {A = Result (Unit {0}) Refusal} (cond b (Ok tt) (Err r)) (Ok tt) → b ≡ true
 by_answer true r e = refl
 by_answer false r e = let z : ◌≡◌ {A = ℕ} 0 1 = cc in absurd (omega arith)
 
-pub alive : (x : Usable) (t : Tape) (serials : List ℕ) (h : Handle) → x ≡ usable_as t serials h → x ≡ Live → lives t.length serials h ≡ true
+pub alive : (x : Result (Unit {0}) Refusal) (t : Tape) (serials : List ℕ) (h : Handle) → x ≡ usable_as t serials h → x ≡ Ok tt → lives t.length serials h ≡ true
 alive x t serials h e l = by_answer (lives t.length serials h) _ (sym e ∙ l)
 
-pub below : (x : Usable) (t : Tape) (serials : List ℕ) (h : Handle) → x ≡ usable_as t serials h → x ≡ Live → h.index < t.length
+pub below : (x : Result (Unit {0}) Refusal) (t : Tape) (serials : List ℕ) (h : Handle) → x ≡ usable_as t serials h → x ≡ Ok tt → h.index < t.length
 below x t serials h e l = (lives_parts t.length serials h (alive x t serials h e l)).below

@@ -11,8 +11,7 @@ use Rattle.tape.specs.Machine.{Arrays}
 use Rattle.tape.specs.Answers.{number, outcome, OneToOne}
 use Rattle.tape.specs.declared.errors.Refusal.{Refusal}
 use Rattle.tape.specs.declared.errors.Refusal.TheVariants.{Misshapen, UnknownOperation, Stale, Detached, Full, SerialsSpent, UnsoundEdge, ListingTooLong, Malformed, NeverIssued, OutOfTurn, UnfitSlice}
-use Rattle.tape.specs.declared.tape.Moved.{Moved}
-use Rattle.tape.specs.declared.tape.Moved.TheVariants.{Done, Refused}
+use Rattle.std.specs.Prelude.{Result, Ok, Err, OnErr}
 use Rattle.tape.specs.declared.tape.Tape.{Tape}
 
 abbrev every_refusal : List Refusal
@@ -47,15 +46,21 @@ never_nought r e = let z : ◌≡◌ {A = ℕ} 0 1 = sym (at_refusal 1 (λ _. 0)
 pub not_nought : (r : Refusal) → eqb (number r) 0 ≡ false
 not_nought r = ne_eqb (number r) 0 (never_nought r)
 
-abbrev meant : ℕ → Tape → Moved
-meant k t = by_number (Done t) (λ r. Refused r t) k
+abbrev meant : ℕ → Tape → Result Tape Refusal
+meant k t = by_number (Ok t) Err k
 
-read_back : (x : Moved) (A : Arrays floats) → meant (outcome x A).0.number (outcome x A).1.state ≡ x
-read_back (Done t) A = refl
-read_back (Refused r t) A = at_refusal (Done t) (λ r. Refused r t) r
+read_back : (x : Result Tape Refusal) (t : Tape) (A : Arrays floats) → meant (outcome x t A).0.number (outcome x t A).1.state ≡ x
+read_back (Ok after) t A = refl
+read_back (Err r) t A = at_refusal (Ok t) Err r
+
+-- a refusal leaves the state
+left_alike : (x y : Result Tape Refusal) (t u : Tape) (A : Arrays floats) → outcome x t A ≡ outcome y u A → OnErr x (t ≡ u)
+left_alike (Ok after) y t u A e = tt
+left_alike (Err r) (Ok after) t u A e = absurd (never_nought r (ap (λ o. o.0.number) e))
+left_alike (Err r) (Err s) t u A e = ap (λ o. o.1.state) e
 
 pub one_to_one : OneToOne
 one_to_one = record {
   numbers = λ r s e. sym (at_refusal Misshapen (λ q. q) r) ∙ ap (by_number Misshapen (λ q. q)) e ∙ at_refusal Misshapen (λ q. q) s;
-  moves = λ x y A e. sym (read_back x A) ∙ ap (λ o. meant o.0.number o.1.state) e ∙ read_back y A;
+  moves = λ x y t u A e. (sym (read_back x t A) ∙ ap (λ o. meant o.0.number o.1.state) e ∙ read_back y u A, left_alike x y t u A e);
 }

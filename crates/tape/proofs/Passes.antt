@@ -24,8 +24,8 @@ use Rattle.tape.specs.Kept.{fresh, after}
 use Rattle.tape.specs.Passes.{EachEdge, push_edge_by_edge, OnlyAdjoints, EmptyRange, BothRanges, NeverUnsound, Unrefused, counts, in_one, in_two}
 use Rattle.tape.specs.declared.errors.Refusal.{Refusal}
 use Rattle.tape.specs.declared.admission.Caller.TheVariants as caller
-use Rattle.tape.specs.declared.tape.Walk.{Walk}
-use Rattle.tape.specs.declared.tape.Walk.TheVariants.{Closed, Open}
+use Rattle.tape.specs.Machine.{Walk}
+use Rattle.std.specs.Prelude.{None, Some}
 use Rattle.tape.proofs.OneToOne.{never_nought}
 use Rattle.tape.proofs.Ranges.{length_indexes, indexes_cut, sum_append, all_append, all_below}
 use Rattle.tape.proofs.Recording.{SoundNodes, recording}
@@ -127,7 +127,7 @@ two_calls c d M {x} e f = ap (λ s. (s.0 ∷ (step d s.1).0 ∷ [], (step d s.1)
 abbrev reset : {N : Numbers} → Machine N → Machine N
 reset M = machine (moved reset_mark M.state) M.lent
 
-module _ {N : Numbers} (M : Machine N) (f : Fit M) (closed : M.state.walk ≡ Closed) where
+module _ {N : Numbers} (M : Machine N) (f : Fit M) (closed : M.state.walk ≡ None) where
   resets : step (move reset_mark) M ≡ (done, reset M)
   unfolding step
   resets = rw (state_fit_so most_nodes M.state (record { length = omega arith; mark = omega arith; next = f.state.next; walk = f.state.walk }), closed)
@@ -176,12 +176,12 @@ ends propagate_mark_to_start M f all_live = omega arith
 
 -- and so do the nodes that are left of a walk, of which there is one or more if it is open
 pub left_ends : (w : Walk) (length : ℕ) → walk_fits length w ≡ true → (left_of w).end ≤ length
-left_ends Closed length e = zero-le
-left_ends (Open s) length e = (walk_fit length s e).1
+left_ends None length e = zero-le
+left_ends (Some s) length e = (walk_fit length s e).1
 
 pub left_in_order : (w : Walk) (length : ℕ) → walk_fits length w ≡ true → (left_of w).from ≤ (left_of w).end
-left_in_order Closed length e = zero-le
-left_in_order (Open s) length e = omega (arith, walk_fit length s e)
+left_in_order None length e = zero-le
+left_in_order (Some s) length e = omega (arith, walk_fit length s e)
 
 module _ {N : Numbers} (M : Machine N) (nodes : SoundNodes M) where
   pass_sound : (p : Pass N) → let_in caller.Passing M ≡ none → first_amiss M (handles (plan p M.state).root) ≡ none → all (map (sound M.lent) (range (plan p M.state))) ≡ true

@@ -22,8 +22,8 @@ use Rattle.tape.specs.Passes.{Unrefused, counts}
 use Rattle.tape.specs.Slices.{Over, nodes_left, in_slices, AnyCutting, GoesOn, rounded_up, AllOneSize, EachSlice}
 use Rattle.tape.specs.declared.admission.Caller.TheVariants as caller
 use Rattle.tape.specs.declared.tape.Span.{Span}
-use Rattle.tape.specs.declared.tape.Walk.{Walk}
-use Rattle.tape.specs.declared.tape.Walk.TheVariants.{Closed, Open}
+use Rattle.tape.specs.Machine.{Walk}
+use Rattle.std.specs.Prelude.{None, Some}
 use Rattle.tape.proofs.Passes.{Accepted, accepted, passes, answers, walk_cut, visited_cut, ends, left_ends, left_in_order, length_seeded, length_walked}
 use Rattle.tape.proofs.Ranges.{length_indexes, nothing_left, indexes_cut, all_append}
 use Rattle.tape.proofs.Steps.{Passed, by_refusal, shape, closed, all_live, sound_range}
@@ -67,7 +67,7 @@ module _ {N : Numbers} where
 
   -- no walk is open, whatever was
   abbrev shut : Machine N → Machine N
-  shut M = machine (with_walk Closed M.state) M.lent
+  shut M = machine (with_walk None M.state) M.lent
 
   pub shut_over : (M : Machine N) → Over M → shut M ≡ M
   shut_over M e = rw e
@@ -162,8 +162,8 @@ any_cutting = record { machine = λ p sizes M. same_machine p sizes M; visits = 
 -- ---- slices of one size
 
 in_its_turn : (n : ℕ) (w : Walk) → 0 < nodes_in (left_of w) → in_turn w (caller.Slice n) ≡ true
-in_its_turn n Closed h = absurd (omega arith)
-in_its_turn n (Open s) h = refl
+in_its_turn n None h = absurd (omega arith)
+in_its_turn n (Some s) h = refl
 
 -- a walk of these nodes fits below the length
 left_fits : (n : ℕ) (s : Span) → s.end ≤ n → walk_fits n (walk_left s) ≡ true
@@ -233,9 +233,9 @@ module _ {N : Numbers} where
   -- with none left the walk is over, and with one it is not
   none_left : (M : Machine N) → Fit M → nodes_left M ≡ 0 → Over M
   none_left M f e = by_walk M.state.walk f.state.walk e where
-    by_walk : (w : Walk) → walk_fits M.state.length w ≡ true → nodes_in (left_of w) ≡ 0 → w ≡ Closed
-    by_walk Closed h e = refl
-    by_walk (Open s) h e = absurd (omega (arith, walk_fit M.state.length s h))
+    by_walk : (w : Walk) → walk_fits M.state.length w ≡ true → nodes_in (left_of w) ≡ 0 → w ≡ None
+    by_walk None h e = refl
+    by_walk (Some s) h e = absurd (omega (arith, walk_fit M.state.length s h))
 
   over_none : (M : Machine N) → Over M → nodes_left M ≡ 0
   over_none M e = rw e
@@ -308,9 +308,9 @@ module _ {N : Numbers} where
   -- a walk that is not over has a node left
   some_left : (M : Machine N) → Fit M → (Over M → ⊥) → 0 < nodes_left M
   some_left M f still = by_walk M.state.walk f.state.walk still where
-    by_walk : (w : Walk) → walk_fits M.state.length w ≡ true → (w ≡ Closed → ⊥) → 0 < nodes_in (left_of w)
-    by_walk Closed h still = absurd (still refl)
-    by_walk (Open s) h still = omega (arith, walk_fit M.state.length s h)
+    by_walk : (w : Walk) → walk_fits M.state.length w ≡ true → (w ≡ None → ⊥) → 0 < nodes_in (left_of w)
+    by_walk None h still = absurd (still refl)
+    by_walk (Some s) h still = omega (arith, walk_fit M.state.length s h)
 
 pub goes_on_so : GoesOn
 goes_on_so = record {

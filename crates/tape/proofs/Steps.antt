@@ -25,14 +25,12 @@ use Rattle.tape.specs.Issued.{first_not_live}
 use Rattle.tape.proofs.Tests.{by_test, by_or, every, Fit, fit, state_fit}
 use Rattle.tape.specs.declared.errors.Refusal.{Refusal}
 use Rattle.tape.specs.declared.errors.Refusal.TheVariants.{Misshapen, UnknownOperation, Stale, Detached, Full, SerialsSpent, UnsoundEdge, ListingTooLong, NeverIssued, OutOfTurn, UnfitSlice}
-use Rattle.tape.specs.declared.admission.Admission.{Admission}
-use Rattle.tape.specs.declared.admission.Admission.TheVariants as door
 use Rattle.tape.specs.declared.admission.Caller.{Caller}
 use Rattle.tape.specs.declared.admission.Lengths.{Lengths}
 use Rattle.tape.specs.declared.node.Handle.{Handle}
 use Rattle.tape.specs.declared.tape.Tape.{Tape}
-use Rattle.tape.specs.declared.tape.Walk.{Walk}
-use Rattle.tape.specs.declared.tape.Walk.TheVariants.{Closed, Open}
+use Rattle.tape.specs.Machine.{Walk}
+use Rattle.std.specs.Prelude.{None, Some, Result, Ok, Err}
 
 -- ---- the first row that refuses
 
@@ -79,9 +77,9 @@ pub granted_shape : {N : Numbers} (k : Caller) (M : Machine N) → let_in k M �
 granted_shape k M e = let_in_fits k (lengths M.lent) M.state e
 
 -- a call that is not answered while a walk is open comes while none is
-pub closed_for : (k : Caller) (w : Walk) → while_open k ≡ false → in_turn w k ≡ true → w ≡ Closed
-closed_for k Closed e t = refl
-closed_for k (Open s) e t = absurd (true≢false (sym t ∙ e))
+pub closed_for : (k : Caller) (w : Walk) → while_open k ≡ false → in_turn w k ≡ true → w ≡ None
+closed_for k None e t = refl
+closed_for k (Some s) e t = absurd (true≢false (sym t ∙ e))
 
 pub mover_unlent : (m : Move) → is_lent (mover m) ≡ false
 mover_unlent start = refl
@@ -102,7 +100,7 @@ module _ {N : Numbers} {c : Call N} {M : Machine N} (p : Passed c M) where
   pub shape : fits (is_lent (asked c M.state).caller) M ≡ true
   shape = granted_shape (asked c M.state).caller M granted
 
-  pub closed : while_open (asked c M.state).caller ≡ false → M.state.walk ≡ Closed
+  pub closed : while_open (asked c M.state).caller ≡ false → M.state.walk ≡ None
   closed e = closed_for (asked c M.state).caller M.state.walk e (let_in_turn (asked c M.state).caller (lengths M.lent) M.state granted)
 
   pub known : unknown (asked c M.state).operation ≡ false
@@ -196,16 +194,16 @@ by_table P c M g =
       ),
     )
 
-pub is_granted : (x : Admission) (o : Option Refusal) → x ≡ admitted o → x ≡ door.Granted → o ≡ none
+pub is_granted : (x : Result (Unit {0}) Refusal) (o : Option Refusal) → x ≡ admitted o → x ≡ Ok tt → o ≡ none
 is_granted x none e f = refl
 is_granted x (some r) e f = let z : ◌≡◌ {A = ℕ} 0 1 = cc in absurd (omega arith)
 
-pub is_refused : (x : Admission) (o : Option Refusal) (r : Refusal) → x ≡ admitted o → x ≡ door.Refused r → o ≡ some r
+pub is_refused : (x : Result (Unit {0}) Refusal) (o : Option Refusal) (r : Refusal) → x ≡ admitted o → x ≡ Err r → o ≡ some r
 is_refused x none r e f = let z : ◌≡◌ {A = ℕ} 0 1 = cc in absurd (omega arith)
 is_refused x (some q) r e f = let z : q ≡ r = cc in ap some z
 
 -- what the admission refuses, which comes before all others
-pub turned_away : {N : Numbers} (c : Call N) (M : Machine N) (x : Admission) (r : Refusal) → x ≡ admitted (let_in (asked c M.state).caller M) → x ≡ door.Refused r → (refused r, M) ≡ step c M
+pub turned_away : {N : Numbers} (c : Call N) (M : Machine N) (x : Result (Unit {0}) Refusal) (r : Refusal) → x ≡ admitted (let_in (asked c M.state).caller M) → x ≡ Err r → (refused r, M) ≡ step c M
 unfolding step
 turned_away c M x r e f = rw (is_refused x (let_in (asked c M.state).caller M) r e f)
 

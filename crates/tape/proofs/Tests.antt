@@ -12,7 +12,7 @@ use Rattle.tape.specs.Machine.{Machine, machine, capacity, slot, all, most_nodes
 use Rattle.tape.specs.Admission.{lengths, fits, arrays_fit, walk_fits, state_fits}
 use Rattle.tape.specs.declared.tape.Span.{Span}
 use Rattle.tape.specs.declared.tape.Tape.{Tape}
-use Rattle.tape.specs.declared.tape.Walk.TheVariants.{Open}
+use Rattle.std.specs.Prelude.{Some}
 
 pub by_test : {A : Type 0} (P : A → Type 0) (b : Bool) {x y : A} → (b ≡ true → P x) → (b ≡ false → P y) → P (cond b x y)
 by_test P true f g = f refl
@@ -39,10 +39,10 @@ every [] e = tt
 every (b ∷ bs) e = let both = (and-eq-true_iff b (all bs)).0 e in (both.0, every bs both.1)
 
 -- a walk that is open fits if it has a node left and none past the length, and only then
-pub walk_fit_so : (n : ℕ) (s : Span) → s.from < s.end → s.end ≤ n → walk_fits n (Open s) ≡ true
+pub walk_fit_so : (n : ℕ) (s : Span) → s.from < s.end → s.end ≤ n → walk_fits n (Some s) ≡ true
 walk_fit_so n s l h = simp (lt-ltb s.from s.end l, le-leb s.end n h)
 
-pub walk_fit : (n : ℕ) (s : Span) → walk_fits n (Open s) ≡ true → (s.from < s.end) × (s.end ≤ n)
+pub walk_fit : (n : ℕ) (s : Span) → walk_fits n (Some s) ≡ true → (s.from < s.end) × (s.end ≤ n)
 walk_fit n s e =
     let both = (and-eq-true_iff (ltb s.from s.end) (leb s.end n)).0 e in
     (ltb-true _ _ both.0, leb-true _ _ both.1)

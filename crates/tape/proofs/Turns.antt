@@ -14,7 +14,7 @@ use Rattle.tape.specs.Slices.{goes_along, Turns}
 use Rattle.tape.specs.declared.admission.Caller.{Caller}
 use Rattle.tape.specs.declared.errors.Refusal.TheVariants.{Misshapen, OutOfTurn}
 use Rattle.tape.specs.declared.tape.Span.{Span}
-use Rattle.tape.specs.declared.tape.Walk.TheVariants.{Open}
+use Rattle.std.specs.Prelude.{Some}
 use Rattle.tape.proofs.Passes.{carried_number}
 use Rattle.tape.proofs.Steps.{by_refusal, by_table}
 use Rattle.tape.proofs.Tests.{is_false, walk_fit, fit, state_fit}
@@ -99,8 +99,8 @@ not_twelve c M turn =
     }))
     (λ _ e. omega (arith, carried_number c M))
 
-module _ {N : Numbers} (c : Call N) (M : Machine N) (s : Span) (e : M.state.walk ≡ Open s) where
-  walk_unfit : walk_fits M.state.length (Open s) ≡ false → step c M ≡ (refused Misshapen, M)
+module _ {N : Numbers} (c : Call N) (M : Machine N) (s : Span) (e : M.state.walk ≡ Some s) where
+  walk_unfit : walk_fits M.state.length (Some s) ≡ false → step c M ≡ (refused Misshapen, M)
   walk_unfit w = misshapen c M (unfit (is_lent (caller_of c M)) M (rw e w))
 
 pub turns : Turns

@@ -4,16 +4,14 @@ use Rattle.std.specs.Prelude.{ℕ, Bool, true, false, not, ◌&&◌, cond, List,
 use Rattle.std.proofs.Math.Option.{Option, none, some}
 use Rattle.tape.specs.Numbers.{Numbers}
 use Rattle.tape.specs.Machine.{Arrays, Machine, most_nodes, slot, all}
-use Rattle.tape.specs.declared.admission.Admission.{Admission}
-use Rattle.tape.specs.declared.admission.Admission.TheVariants as answer
 use Rattle.tape.specs.declared.admission.Caller.{Caller}
 use Rattle.tape.specs.declared.admission.Caller.TheVariants as caller
 use Rattle.tape.specs.declared.admission.Lengths.{Lengths}
 use Rattle.tape.specs.declared.errors.Refusal.{Refusal}
 use Rattle.tape.specs.declared.errors.Refusal.TheVariants.{Misshapen, OutOfTurn, UnfitSlice}
 use Rattle.tape.specs.declared.tape.Tape.{Tape}
-use Rattle.tape.specs.declared.tape.Walk.{Walk}
-use Rattle.tape.specs.declared.tape.Walk.TheVariants.{Closed, Open}
+use Rattle.tape.specs.Machine.{Walk}
+use Rattle.std.specs.Prelude.{None, Some, Result, Ok, Err}
 
 abbrev pub lengths : {N : Numbers} → Arrays N → Lengths
 lengths A =
@@ -45,8 +43,8 @@ arrays_fit n =
 
 -- a walk that is open has a node left, and none past the length
 abbrev pub walk_fits : ℕ → Walk → Bool
-walk_fits length Closed = true
-walk_fits length (Open s) = ltb s.from s.end && leb s.end length
+walk_fits length None = true
+walk_fits length (Some s) = ltb s.from s.end && leb s.end length
 
 -- the length is at most n, the mark at most the length, the next serial is not 0, and a walk that is open fits
 abbrev pub state_fits : ℕ → Tape → List Bool
@@ -87,8 +85,8 @@ while_closed caller.Liveness = true
 while_closed caller.Listing = true
 
 abbrev pub in_turn : Walk → Caller → Bool
-in_turn Closed k = while_closed k
-in_turn (Open s) k = while_open k
+in_turn None k = while_closed k
+in_turn (Some s) k = while_open k
 
 -- a slice takes 1 to 65,535 nodes
 abbrev pub slice_fits : Caller → Bool
@@ -127,6 +125,6 @@ abbrev pub let_in : {N : Numbers} → Caller → Machine N → Option Refusal
 let_in k M = admission k (lengths M.lent) M.state
 
 -- as the code answers it
-abbrev pub admitted : Option Refusal → Admission
-admitted none = answer.Granted
-admitted (some r) = answer.Refused r
+abbrev pub admitted : Option Refusal → Result (Unit {0}) Refusal
+admitted none = Ok tt
+admitted (some r) = Err r

@@ -1,14 +1,13 @@
 -- What a call returns, as document 01 has it: a number, a value, a handle, a count, and how many nodes are left of a
 -- walk. Number 0 is an answer; the others are the refusals.
-use Rattle.std.specs.Prelude.{ℕ, ◌≡◌}
+use Rattle.std.specs.Prelude.{ℕ, ◌≡◌, Result, Ok, Err, OnErr}
 use Rattle.std.proofs.Math.Option.{Option, none, some}
 use Rattle.tape.specs.Numbers.{Numbers, floats}
 use Rattle.tape.specs.Machine.{Arrays, Machine, machine}
 use Rattle.tape.specs.declared.errors.Refusal.{Refusal}
 use Rattle.tape.specs.declared.errors.Refusal.TheVariants.{Misshapen, UnknownOperation, Stale, Detached, Full, SerialsSpent, UnsoundEdge, ListingTooLong, Malformed, NeverIssued, OutOfTurn, UnfitSlice}
 use Rattle.tape.specs.declared.node.Handle.{Handle}
-use Rattle.tape.specs.declared.tape.Moved.{Moved}
-use Rattle.tape.specs.declared.tape.Moved.TheVariants.{Done, Refused}
+use Rattle.tape.specs.declared.tape.Tape.{Tape}
 
 abbrev pub number : Refusal → ℕ
 number Misshapen = 1
@@ -62,12 +61,14 @@ cut {N} n left = answer 0 N.nought none n left
 abbrev pub recorded : {N : Numbers} → N.Number → Handle → Answer N
 recorded v h = answer 0 v (some h) 0 0
 
--- what the code's answer to a start, stop, mark or rewind says, for whatever arrays the caller keeps beside the state
-abbrev pub outcome : Moved → Arrays floats → Answer floats × Machine floats
-outcome (Done t) A = (done, machine t A)
-outcome (Refused r t) A = (refused r, machine t A)
+-- what the code's answer to a start, stop, mark or rewind of a state says, for whatever arrays the caller keeps beside it:
+-- a refusal leaves the state
+abbrev pub outcome : Result Tape Refusal → Tape → Arrays floats → Answer floats × Machine floats
+outcome (Ok after) t A = (done, machine after A)
+outcome (Err r) t A = (refused r, machine t A)
 
--- no two of the code's answers say the same, and no two refusals have one number. Proved in proofs/OneToOne.antt
+-- no two of the code's answers say the same, nor two refusals of two states, and no two refusals have one number. Proved
+-- in proofs/OneToOne.antt
 pub record OneToOne : Type 0 where
   pub numbers : (r s : Refusal) → number r ≡ number s → r ≡ s
-  pub moves : (x y : Moved) (A : Arrays floats) → outcome x A ≡ outcome y A → x ≡ y
+  pub moves : (x y : Result Tape Refusal) (t u : Tape) (A : Arrays floats) → outcome x t A ≡ outcome y u A → (x ≡ y) × OnErr x (t ≡ u)

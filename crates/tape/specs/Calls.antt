@@ -12,8 +12,8 @@ use Rattle.tape.specs.Answers.{Answer, done, read_value, detached, recorded, cou
 use Rattle.tape.specs.declared.node.Handle.{Handle}
 use Rattle.tape.specs.declared.tape.Span.{Span}
 use Rattle.tape.specs.declared.tape.Tape.{Tape}
-use Rattle.tape.specs.declared.tape.Walk.{Walk}
-use Rattle.tape.specs.declared.tape.Walk.TheVariants.{Closed, Open}
+use Rattle.tape.specs.Machine.{Walk}
+use Rattle.std.specs.Prelude.{None, Some}
 
 pub data Move : Type 0 where
   start stop set_mark reset_mark rewind_to_mark rewind_to_init : Move
@@ -39,7 +39,7 @@ pub data Call (N : Numbers) : Type 0 where
 -- ---- start, stop, marks and rewinds
 
 abbrev pub moved : Move → Tape → Tape
-moved start t = with_walk Closed (with_active true (with_mark 0 (with_length 0 t)))
+moved start t = with_walk None (with_active true (with_mark 0 (with_length 0 t)))
 moved stop t = with_active false t
 moved set_mark t = with_mark t.length t
 moved reset_mark t = with_mark 0 t
@@ -142,8 +142,8 @@ opened P M = leaving (span_of P) (with_adjoints M (seeded P.root M.lent.adjoint)
 
 -- the nodes that are left of a walk
 abbrev pub left_of : Walk → Span
-left_of Closed = span 0 0
-left_of (Open s) = s
+left_of None = span 0 0
+left_of (Some s) = s
 
 -- a slice of n takes min(n, left) nodes from the top, down to this one
 abbrev pub cut_at : ℕ → Span → ℕ

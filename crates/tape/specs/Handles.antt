@@ -1,5 +1,5 @@
 -- Handles, and what a caller carries: a plain number or a handle.
-use Rattle.std.specs.Prelude.{ℕ, Bool, true, false, not, ◌||◌, cond, List, [], ◌∷◌, ltb, eqb, get_or}
+use Rattle.std.specs.Prelude.{ℕ, Bool, true, false, not, ◌||◌, cond, List, [], ◌∷◌, ltb, eqb, get_or, Result, Ok, Err}
 use Rattle.tape.specs.Numbers.{Numbers, floats}
 use Rattle.tape.specs.Machine.{Machine, all}
 use Rattle.tape.specs.declared.errors.Refusal.{Refusal}
@@ -7,8 +7,6 @@ use Rattle.tape.specs.declared.errors.Refusal.TheVariants.{Stale, NeverIssued}
 use Rattle.tape.specs.declared.node.Handle.{Handle}
 use Rattle.tape.specs.declared.node.Lookup.{Lookup}
 use Rattle.tape.specs.declared.node.Lookup.TheVariants as lookup
-use Rattle.tape.specs.declared.node.Usable.{Usable}
-use Rattle.tape.specs.declared.node.Usable.TheVariants.{Live, Refused}
 use Rattle.tape.specs.declared.node.Operand as code
 use Rattle.tape.specs.declared.tape.Tape.{Tape}
 
@@ -30,8 +28,8 @@ abbrev pub looked_up : Tape → List ℕ → Handle → Lookup
 looked_up t serials h = cond (lives t.length serials h) lookup.Live (cond (never_issued t h) lookup.NeverIssued lookup.Stale)
 
 -- and a call that needs a live handle
-abbrev pub usable_as : Tape → List ℕ → Handle → Usable
-usable_as t serials h = cond (lives t.length serials h) Live (Refused (amiss t h))
+abbrev pub usable_as : Tape → List ℕ → Handle → Result (Unit {0}) Refusal
+usable_as t serials h = cond (lives t.length serials h) (Ok tt) (Err (amiss t h))
 
 abbrev pub live : {N : Numbers} → Machine N → Handle → Bool
 live M h = lives M.state.length M.lent.serial h

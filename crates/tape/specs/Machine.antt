@@ -1,11 +1,12 @@
 -- The machine: a small state and six lent arrays. The state is the code's own `Tape`: length, mark, active flag, next
 -- serial and the walk that is open, if one is.
-use Rattle.std.specs.Prelude.{ℕ, ◌*◌, Bool, true, false, ◌&&◌, cond, List, [], ◌∷◌, ltb, length}
+use Rattle.std.specs.Prelude.{ℕ, ◌≡◌, ◌*◌, Bool, true, false, ◌&&◌, cond, List, [], ◌∷◌, ltb, length, Option, None, Some}
+use Rattle.std.specs.Borrow.{Bor, MutBor}
 use Rattle.tape.specs.Numbers.{Numbers, floats}
 use Rattle.tape.specs.declared.tape.Span.{Span}
 use Rattle.tape.specs.declared.tape.Tape.{Tape}
-use Rattle.tape.specs.declared.tape.Walk.{Walk}
-use Rattle.tape.specs.declared.tape.Walk.TheVariants.{Closed, Open}
+use Rattle.tape.specs.declared.nodes.Nodes.{Nodes}
+use Rattle.tape.specs.declared.nodes.NodesMut.{NodesMut}
 
 -- value, adjoint, serial and edge count have an entry for each node; edge child and edge partial have two
 pub record Arrays (N : Numbers) : Type 0 where
@@ -47,9 +48,13 @@ all (b ∷ bs) = b && all bs
 
 -- ---- the state
 
+-- the walk that is open, if one is: the nodes that are left of it
+abbrev pub Walk : Type 0
+Walk = Option Span
+
 -- length 0, mark 0, inactive, the first serial 1, no walk open
 abbrev pub new_tape : Tape
-new_tape = record { length = 0; mark = 0; active = false; next = 1; walk = Closed }
+new_tape = record { length = 0; mark = 0; active = false; next = 1; walk = None }
 
 -- a state with one field changed
 abbrev pub with_length : ℕ → Tape → Tape
@@ -77,11 +82,31 @@ span from end = record { from = from; end = end }
 
 -- a walk of which these nodes are left: if they are none, it is over
 abbrev pub walk_left : Span → Walk
-walk_left s = cond (ltb s.from s.end) (Open s) Closed
+walk_left s = cond (ltb s.from s.end) (Some s) None
 
 -- ---- what a call is lent, in a promise
 
--- the six arrays as the call finds them (`.old`, or `.now` of what is lent to be read alone), or as it leaves them (`.new`)
-abbrev pub lent_arrays : List floats.Number → List floats.Number → List ℕ → List ℕ → List ℕ → List floats.Number
-    → Arrays floats
-lent_arrays = arrays
+-- the six arrays, lent to be read but for the adjoints, of which a pass's are written: as it finds them (`.old`) or leaves
+-- them (`.new`)
+abbrev pub lent : Nodes → List floats.Number → Arrays floats
+lent n a = arrays n.value.now a n.serial.now n.count.now n.child.now n.partial.now
+
+abbrev pub read_only : {A : Type 0} → MutBor A → Bor A
+read_only x = record { ref_ptr = x.ref_ptr; now = x.now }
+
+-- the same arrays, to be read
+abbrev pub shared : NodesMut → Nodes
+shared n =
+    record { value = read_only n.value; serial = read_only n.serial; count = read_only n.count; child = read_only n.child; partial = read_only n.partial }
+
+-- the six, lent to be written: as a recording finds them (`nodes.old`) or leaves them (`nodes.new`)
+abbrev pub lent_mut : NodesMut → List floats.Number → Arrays floats
+lent_mut n a = lent (shared n) a
+
+abbrev pub Same : {A : Type 0} → MutBor A → MutBor A → Type 0
+Same x y = (y.ref_ptr ≡ x.ref_ptr) × (y.ghost_name ≡ x.ghost_name)
+
+-- they are the arrays that were lent: a call writes into them, and puts no other in their place
+abbrev pub SameArrays : NodesMut → NodesMut → Type 0
+SameArrays n m =
+    Same n.value m.value × Same n.serial m.serial × Same n.count m.count × Same n.child m.child × Same n.partial m.partial

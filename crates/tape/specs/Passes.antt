@@ -9,7 +9,7 @@ use Rattle.tape.specs.Calls.{move, reset_mark, Pass, Call, pass, propagate_to_ma
 use Rattle.tape.specs.Admission.{fits}
 use Rattle.tape.specs.Steps.{step, run}
 use Rattle.tape.specs.Kept.{fresh, after}
-use Rattle.tape.specs.declared.tape.Walk.TheVariants.{Closed}
+use Rattle.std.specs.Prelude.{None}
 
 -- document 01's words to the letter, the adjoint of node i read again for each edge
 abbrev pub push_edge_by_edge : {N : Numbers} → ℕ → List (Edge N) → List N.Number → List N.Number
@@ -40,10 +40,10 @@ pub record OnlyAdjoints : Type 1 where
 
 -- a pass without a root over an empty range changes nothing and counts 0. Proved in proofs/Passes.antt
 pub record EmptyRange : Type 1 where
-  pub to_start : {N : Numbers} (M : Machine N) → fits true M ≡ true → M.state.walk ≡ Closed
+  pub to_start : {N : Numbers} (M : Machine N) → fits true M ≡ true → M.state.walk ≡ None
       → M.state.mark ≡ 0
       → step (pass propagate_mark_to_start) M ≡ (counted 0, M)
-  pub to_mark : {N : Numbers} (M : Machine N) → fits true M ≡ true → M.state.walk ≡ Closed
+  pub to_mark : {N : Numbers} (M : Machine N) → fits true M ≡ true → M.state.walk ≡ None
       → M.state.mark ≡ M.state.length
       → step (pass propagate_to_mark) M ≡ (counted 0, M)
 

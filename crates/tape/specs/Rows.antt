@@ -19,7 +19,7 @@ use Rattle.tape.specs.Kept.{fresh, after}
 use Rattle.tape.specs.declared.errors.Refusal.{Refusal}
 use Rattle.tape.specs.declared.errors.Refusal.TheVariants.{Misshapen, Stale, Detached, UnsoundEdge, ListingTooLong, NeverIssued, OutOfTurn, UnfitSlice}
 use Rattle.tape.specs.declared.node.Handle.{Handle}
-use Rattle.tape.specs.declared.tape.Walk.TheVariants.{Open}
+use Rattle.std.specs.Prelude.{Some}
 
 -- ---- what a row is
 
@@ -434,7 +434,7 @@ while_it_is_open =
 
 -- a machine with these nodes left to be walked
 abbrev pub with_open : ℕ → ℕ → Machine floats → Machine floats
-with_open from end M = machine (with_walk (Open (span from end)) M.state) M.lent
+with_open from end M = machine (with_walk (Some (span from end)) M.state) M.lent
 
 -- a tape of two nodes with these left
 abbrev pub left_open : ℕ → ℕ → Machine floats

@@ -12,11 +12,11 @@ use Rattle.tape.specs.Kept.{after}
 use Rattle.tape.specs.Passes.{Unrefused, counts}
 use Rattle.tape.specs.declared.errors.Refusal.TheVariants.{Misshapen, OutOfTurn}
 use Rattle.tape.specs.declared.tape.Span.{Span}
-use Rattle.tape.specs.declared.tape.Walk.TheVariants.{Closed, Open}
+use Rattle.std.specs.Prelude.{None, Some}
 
 -- no walk is open
 abbrev pub Over : {N : Numbers} → Machine N → Type 0
-Over M = M.state.walk ≡ Closed
+Over M = M.state.walk ≡ None
 
 -- how many nodes are left of the walk that is open
 abbrev pub nodes_left : {N : Numbers} → Machine N → ℕ
@@ -48,19 +48,19 @@ goes_along (is_live x) = false
 -- is. With a walk open that has no node left, or that reaches past the length, every call is refused 1. Proved in
 -- proofs/Turns.antt
 pub record Turns : Type 1 where
-  pub others : {N : Numbers} (c : Call N) (M : Machine N) (s : Span) → M.state.walk ≡ Open s → goes_along c ≡ false
+  pub others : {N : Numbers} (c : Call N) (M : Machine N) (s : Span) → M.state.walk ≡ Some s → goes_along c ≡ false
       → ((step c M).0.number ≡ 1 → ⊥)
       → step c M ≡ (refused OutOfTurn, M)
   pub none_open : {N : Numbers} (n : ℕ) (M : Machine N) → Over M → ((step (slice n) M).0.number ≡ 1 → ⊥)
       → step (slice n) M ≡ (refused OutOfTurn, M)
-  pub in_turn : {N : Numbers} (c : Call N) (M : Machine N) (s : Span) → M.state.walk ≡ Open s → goes_along c ≡ true
+  pub in_turn : {N : Numbers} (c : Call N) (M : Machine N) (s : Span) → M.state.walk ≡ Some s → goes_along c ≡ true
       → (step c M).0.number ≡ 12 → ⊥
   pub over : {N : Numbers} (c : Call N) (M : Machine N) → Over M → ((n : ℕ) → c ≡ slice n → ⊥)
       → (step c M).0.number ≡ 12 → ⊥
-  pub no_node_left : {N : Numbers} (c : Call N) (M : Machine N) (s : Span) → M.state.walk ≡ Open s
+  pub no_node_left : {N : Numbers} (c : Call N) (M : Machine N) (s : Span) → M.state.walk ≡ Some s
       → s.end ≤ s.from
       → step c M ≡ (refused Misshapen, M)
-  pub past_the_length : {N : Numbers} (c : Call N) (M : Machine N) (s : Span) → M.state.walk ≡ Open s
+  pub past_the_length : {N : Numbers} (c : Call N) (M : Machine N) (s : Span) → M.state.walk ≡ Some s
       → M.state.length < s.end
       → step c M ≡ (refused Misshapen, M)
 

@@ -1,12 +1,13 @@
 // The admission: what is asked at the head of every call, which is told which call asks and how long the arrays are
 // that it is lent.
 ghost use Rattle.std.specs.Prelude.{◌≡◌, true};
-ghost use Rattle.tape.specs.Machine.{all, lent_arrays};
+ghost use Rattle.tape.specs.Machine.{all, lent};
 ghost use Rattle.tape.specs.Admission.{lengths, is_lent, walk_fits, state_fits, fitting, while_open, while_closed, in_turn, slice_fits, admission, admitted};
 
 use crate::errors::Refusal;
 use crate::node::{MOST_EDGES, MOST_NODES};
-use crate::tape::{Tape, Walk};
+use crate::nodes::Nodes;
+use crate::tape::Tape;
 
 // Which call asks to be let in. A pass asks alike whether it is opened or goes on to its end.
 #[derive(Clone, Copy)]
@@ -35,13 +36,6 @@ pub struct Lengths {
     pub partial: usize,
 }
 
-// A call is let in, or refused at the head.
-#[derive(Clone, Copy)]
-pub enum Admission {
-    Granted,
-    Refused(Refusal),
-}
-
 impl Lengths {
     // Of a call that is lent no array.
     pub(crate) const NONE: Lengths = Lengths {
@@ -54,23 +48,16 @@ impl Lengths {
     };
 
     // The lengths of the arrays that a call is lent.
-    pub fn of(
-        value: &[f64],
-        adjoint: &[f64],
-        serial: &[u64],
-        count: &[u8],
-        child: &[u16],
-        partial: &[f64],
-    ) -> Lengths
-        ensures { result ≡ lengths (lent_arrays value.now adjoint.now serial.now count.now child.now partial.now) }
+    pub fn of(nodes: Nodes<'_>, adjoint: &[f64]) -> Lengths
+        ensures { result ≡ lengths (lent nodes.entry adjoint.now) }
     {
         Lengths {
-            value: value.len(),
+            value: nodes.value.len(),
             adjoint: adjoint.len(),
-            serial: serial.len(),
-            count: count.len(),
-            child: child.len(),
-            partial: partial.len(),
+            serial: nodes.serial.len(),
+            count: nodes.count.len(),
+            child: nodes.child.len(),
+            partial: nodes.partial.len(),
         }
     }
 }
@@ -78,31 +65,28 @@ impl Lengths {
 impl Tape {
     // What every call is asked first: whether the state and the arrays that it is lent fit together (1), whether it may
     // come while a walk is open, or while none is (12), and a slice, whether it is to take 1 to 65,535 nodes (13).
-    pub fn admit(self, caller: Caller, lent: Lengths) -> Admission
+    pub fn admit(self, caller: Caller, lent: Lengths) -> Result<(), Refusal>
         ensures { result ≡ admitted (admission caller lent self) }
     {
-        let shaped = self.is_shaped(is_lent(caller), lent);
-        let in_turn = self.is_in_turn(caller);
-        let sized = slice_fits(caller);
-        if !shaped {
-            return Admission::Refused(Refusal::Misshapen);
+        if !self.is_shaped(caller.is_lent(), lent) {
+            Err(Refusal::Misshapen)
+        } else if !self.is_in_turn(caller) {
+            Err(Refusal::OutOfTurn)
+        } else if !caller.slice_fits() {
+            Err(Refusal::UnfitSlice)
+        } else {
+            Ok(())
         }
-        if !in_turn {
-            return Admission::Refused(Refusal::OutOfTurn);
-        }
-        if !sized {
-            return Admission::Refused(Refusal::UnfitSlice);
-        }
-        Admission::Granted
     }
 
     fn is_shaped(self, lending: bool, lent: Lengths) -> bool
         ensures { result ≡ fitting lending lent self }
     {
         if lending {
-            return self.fits_into(lent);
+            self.fits_into(lent)
+        } else {
+            self.state_fits(MOST_NODES)
         }
-        self.state_fits(MOST_NODES)
     }
 
     fn fits_into(self, lent: Lengths) -> bool
@@ -132,92 +116,54 @@ impl Tape {
     fn walk_fits(self) -> bool
         ensures { result ≡ walk_fits self.length self.walk }
     {
-        let walk = self.walk;
-        match walk {
-            Walk::Closed => true,
-            Walk::Open(span) => (span.from < span.end) & (span.end <= self.length),
+        match self.walk {
+            None => true,
+            Some(span) => (span.from < span.end) & (span.end <= self.length),
         }
     }
 
     fn is_in_turn(self, caller: Caller) -> bool
         ensures { result ≡ in_turn self.walk caller }
     {
-        let walk = self.walk;
-        match walk {
-            Walk::Closed => while_closed(caller),
-            Walk::Open(_) => while_open(caller),
+        match self.walk {
+            None => caller.while_closed(),
+            Some(_) => caller.while_open(),
         }
     }
 }
 
-// Start, stop, marks and rewinds are lent no array.
-fn is_lent(caller: Caller) -> bool
-    ensures { result ≡ is_lent caller }
-{
-    match caller {
-        Caller::Start => false,
-        Caller::Move => false,
-        Caller::Recording => true,
-        Caller::Clearing => true,
-        Caller::Passing => true,
-        Caller::Slice(_) => true,
-        Caller::Value => true,
-        Caller::Adjoint => true,
-        Caller::Liveness => true,
-        Caller::Listing => true,
+impl Caller {
+    // Start, stop, marks and rewinds are lent no array.
+    fn is_lent(self) -> bool
+        ensures { result ≡ is_lent self }
+    {
+        !matches!(self, Caller::Start | Caller::Move)
     }
-}
 
-// Whether a call is answered while a walk is open.
-fn while_open(caller: Caller) -> bool
-    ensures { result ≡ while_open caller }
-{
-    match caller {
-        Caller::Start => true,
-        Caller::Move => false,
-        Caller::Recording => false,
-        Caller::Clearing => false,
-        Caller::Passing => false,
-        Caller::Slice(_) => true,
-        Caller::Value => false,
-        Caller::Adjoint => true,
-        Caller::Liveness => false,
-        Caller::Listing => true,
+    // Whether the call is answered while a walk is open.
+    fn while_open(self) -> bool
+        ensures { result ≡ while_open self }
+    {
+        matches!(
+            self,
+            Caller::Start | Caller::Slice(_) | Caller::Adjoint | Caller::Listing
+        )
     }
-}
 
-// Whether it is answered while none is.
-fn while_closed(caller: Caller) -> bool
-    ensures { result ≡ while_closed caller }
-{
-    match caller {
-        Caller::Start => true,
-        Caller::Move => true,
-        Caller::Recording => true,
-        Caller::Clearing => true,
-        Caller::Passing => true,
-        Caller::Slice(_) => false,
-        Caller::Value => true,
-        Caller::Adjoint => true,
-        Caller::Liveness => true,
-        Caller::Listing => true,
+    // Whether it is answered while none is.
+    fn while_closed(self) -> bool
+        ensures { result ≡ while_closed self }
+    {
+        !matches!(self, Caller::Slice(_))
     }
-}
 
-// A slice takes 1 to 65,535 nodes.
-fn slice_fits(caller: Caller) -> bool
-    ensures { result ≡ slice_fits caller }
-{
-    match caller {
-        Caller::Start => true,
-        Caller::Move => true,
-        Caller::Recording => true,
-        Caller::Clearing => true,
-        Caller::Passing => true,
-        Caller::Slice(nodes) => (0 < nodes) & (nodes <= MOST_NODES),
-        Caller::Value => true,
-        Caller::Adjoint => true,
-        Caller::Liveness => true,
-        Caller::Listing => true,
+    // A slice takes 1 to 65,535 nodes.
+    fn slice_fits(self) -> bool
+        ensures { result ≡ slice_fits self }
+    {
+        match self {
+            Caller::Slice(nodes) => (0 < nodes) & (nodes <= MOST_NODES),
+            _ => true,
+        }
     }
 }

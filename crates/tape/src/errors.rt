@@ -3,20 +3,20 @@
 ghost use Rattle.std.specs.Prelude.{◌≡◌};
 ghost use Rattle.tape.specs.Answers.{number};
 
-#[derive(Clone, Copy)]
+#[derive(Clone, Copy, PartialEq, Eq)]
 pub enum Refusal {
-    Misshapen,
-    UnknownOperation,
-    Stale,
-    Detached,
-    Full,
-    SerialsSpent,
-    UnsoundEdge,
-    ListingTooLong,
-    Malformed,
-    NeverIssued,
-    OutOfTurn,
-    UnfitSlice,
+    Misshapen = 1,
+    UnknownOperation = 2,
+    Stale = 3,
+    Detached = 4,
+    Full = 5,
+    SerialsSpent = 6,
+    UnsoundEdge = 7,
+    ListingTooLong = 8,
+    Malformed = 9,
+    NeverIssued = 11,
+    OutOfTurn = 12,
+    UnfitSlice = 13,
 }
 
 impl Refusal {
@@ -24,19 +24,6 @@ impl Refusal {
     pub fn number(self) -> u8
         ensures { result ≡ number self }
     {
-        match self {
-            Refusal::Misshapen => 1,
-            Refusal::UnknownOperation => 2,
-            Refusal::Stale => 3,
-            Refusal::Detached => 4,
-            Refusal::Full => 5,
-            Refusal::SerialsSpent => 6,
-            Refusal::UnsoundEdge => 7,
-            Refusal::ListingTooLong => 8,
-            Refusal::Malformed => 9,
-            Refusal::NeverIssued => 11,
-            Refusal::OutOfTurn => 12,
-            Refusal::UnfitSlice => 13,
-        }
+        self as u8
     }
 }

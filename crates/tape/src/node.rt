@@ -11,8 +11,8 @@ pub const MOST_NODES: usize = 65_535;
 // How many edges a node has room for.
 pub const MOST_EDGES: usize = 2;
 
-// The node at index, as long as the serial stored there is this one.
-#[derive(Clone, Copy)]
+// The node at index, as long as the serial stored there is this one. Document 01 has indexes for the Rust's pointers.
+#[derive(Clone, Copy, PartialEq, Eq)]
 pub struct Handle {
     pub index: usize,
     pub serial: u64,
@@ -25,22 +25,15 @@ pub enum Operand {
 }
 
 // What a lookup finds behind a handle.
-#[derive(Clone, Copy)]
+#[derive(Clone, Copy, PartialEq, Eq)]
 pub enum Lookup {
     Live,
     Stale,
     NeverIssued,
 }
 
-// Whether a call may use a handle, or why it is refused.
-#[derive(Clone, Copy)]
-pub enum Usable {
-    Live,
-    Refused(Refusal),
-}
-
 impl Handle {
-    // A handle that is never live: no node has serial 0.
+    // A handle that is never live: document 01 gives serial 0 to no node.
     pub const NEVER_LIVE: Handle = Handle {
         index: 0,
         serial: 0,
@@ -51,56 +44,40 @@ impl Handle {
     pub fn lookup(self, tape: Tape, serial: &[u64]) -> Lookup
         ensures { result ≡ looked_up tape serial.now self }
     {
-        let lives = self.lives(tape.length, serial);
-        let unissued = self.never_issued(tape);
         // Only what is not live is sorted by its serial.
-        if lives {
-            return Lookup::Live;
+        if self.lives(tape.length, serial) {
+            Lookup::Live
+        } else if self.never_issued(tape) {
+            Lookup::NeverIssued
+        } else {
+            Lookup::Stale
         }
-        if unissued {
-            return Lookup::NeverIssued;
-        }
-        Lookup::Stale
     }
 
     // The same for a call that needs a live one: what is not live is refused, in this one place.
-    pub fn usable(self, tape: Tape, serial: &[u64]) -> Usable
+    pub fn usable(self, tape: Tape, serial: &[u64]) -> Result<(), Refusal>
         ensures { result ≡ usable_as tape serial.now self }
     {
         match self.lookup(tape, serial) {
-            Lookup::Live => Usable::Live,
-            Lookup::Stale => Usable::Refused(Refusal::Stale),
-            Lookup::NeverIssued => Usable::Refused(Refusal::NeverIssued),
+            Lookup::Live => Ok(()),
+            Lookup::Stale => Err(Refusal::Stale),
+            Lookup::NeverIssued => Err(Refusal::NeverIssued),
         }
     }
 
     fn lives(self, length: usize, serial: &[u64]) -> bool
         ensures { result ≡ lives length serial.now self }
     {
-        let index = self.index;
-        if length <= index {
-            return false;
+        match serial.get(self.index) {
+            Some(stored) => (self.index < length) & (self.serial != 0) & (*stored == self.serial),
+            None => false,
         }
-        if self.serial == 0 {
-            return false;
-        }
-        if serial.len() <= index {
-            return false;
-        }
-        let stored = serial[index];
-        stored == self.serial
     }
 
     // Whether no node was given its serial so far.
     fn never_issued(self, tape: Tape) -> bool
         ensures { result ≡ never_issued tape self }
     {
-        if self.serial == 0 {
-            return true;
-        }
-        if self.serial < tape.next {
-            return false;
-        }
-        true
+        (self.serial == 0) | (tape.next <= self.serial)
     }
 }

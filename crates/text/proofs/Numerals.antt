@@ -1,10 +1,10 @@
 -- How many digits a number is written with.
-use Prim.Native.Nat.{ℕ, zero, suc, ◌+◌, ◌/◌, ◌^◌, ◌≤◌, ◌<◌}
+use Prim.Native.Nat.{ℕ, zero, suc, ◌+◌, ◌/◌, ◌≤◌, ◌<◌}
 use native.Mathlib.Omega.{arith}
 use mathlib.Core.Path.{◌≡◌, refl}
 use mathlib.Core.Bool.{Bool, true, false, cond}
 use mathlib.Core.List.{List}
-use borrow.Author.Tests.{lt-ltb, le-ltb}
+use borrow.Author.Tests.{lt-ltb}
 use lib.Dec.{leb, ltb}
 use lib.ListN.{length, length-append}
 use Rattle.text.specs.Numerals.{digits, places, hex, decimal}
@@ -26,36 +26,11 @@ digits_written b k n e w = has_room (digits b k n) (rw (length_digits b k n) e) 
 pub digits_not_written : {before : List ℕ} {at : ℕ} (b k n : ℕ) → leb (at + k) (length before) ≡ false → (at, before) ≡ written before at (digits b k n)
 digits_not_written b k n e = no_room (digits b k n) (rw (length_digits b k n) e)
 
--- ---- decimal places are counted by dividing as long as there is more than one digit
-
--- so many divisions leave one digit
-abbrev Enough : ℕ → ℕ → Type 0
-Enough zero rest = rest < 10
-Enough (suc k) rest = Enough k (rest / 10)
-
-pub record Counted (n found rest : ℕ) : Type 0 where
-  more : ℕ
-  pub few : found + more ≡ 20
-  enough : Enough more rest
-  whole : found + places more rest ≡ 1 + places 19 n
-
-pub none_counted : (n : ℕ) → n < 2 ^ 64 → Counted n 1 n
-none_counted n h = record { more = 19; few = refl; enough = omega arith; whole = refl }
-
-one_more : (n found rest more : ℕ) → found + more ≡ 20 → Enough more rest → found + places more rest ≡ 1 + places 19 n → 10 ≤ rest → Counted n (found + 1) (rest / 10)
-one_more n found rest zero few enough whole h = absurd (omega arith)
-one_more n found rest (suc more) few enough whole h =
-    record { more = more; few = omega arith; enough = enough; whole = let e = rw (le-ltb rest 10 h) at whole in omega arith }
-
-pub one_counted : {n found rest : ℕ} → Counted n found rest → 10 ≤ rest → Counted n (found + 1) (rest / 10)
-one_counted {n} {found} {rest} c h = one_more n found rest c.more c.few c.enough c.whole h
+-- ---- decimal places
 
 pub one_place : (k n : ℕ) → n < 10 → places k n ≡ 1
 one_place zero n h = refl
 one_place (suc k) n h = rw (lt-ltb n 10 h)
-
-pub all_counted : {n found rest : ℕ} → Counted n found rest → rest < 10 → found ≡ length (decimal n)
-all_counted {n} {found} {rest} c h = omega (arith, length_digits 10 (places 19 n) n, one_place c.more rest h)
 
 places_few : (k n : ℕ) → places k n ≤ 1 + k
 places_few zero n = omega arith

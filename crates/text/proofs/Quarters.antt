@@ -92,9 +92,6 @@ four_digits q h =
 
 -- ---- each byte of the number is a digit's
 
-a_byte : (n : ℕ) → digit (n % 16) < 256
-a_byte n = rw (← worked_out (n % 16) (mod-lt n (omega arith))) (omega arith)
-
 abbrev stores : List ℕ → ℕ → ℕ → List ℕ
 stores out at n = set (set (set (set out at (n % 256)) (at + 1) (n / 256 % 256)) (at + 2) (n / 0x1_0000 % 256)) (at + 3) (n / 0x100_0000)
 
@@ -112,7 +109,3 @@ module _ (a b c d : ℕ) (ha : a < 256) (hb : b < 256) (hc : c < 256) where
       let f : at + 2 ≡ suc (suc at) = omega arith in
       let g : at + 3 ≡ suc (suc (suc at)) = omega arith in
       rw (e, f, g, i, j, k, l)
-
-pub four_stored : (out : List ℕ) (at q n : ℕ) → n ≡ packed (digits 16 4 q) → stores out at n ≡ sets out at (digits 16 4 q)
-four_stored out at q n e =
-    rw e (stored (digit (q / 16 / 16 / 16 % 16)) (digit (q / 16 / 16 % 16)) (digit (q / 16 % 16)) (digit (q % 16)) (a_byte (q / 16 / 16 / 16)) (a_byte (q / 16 / 16)) (a_byte (q / 16)) out at)

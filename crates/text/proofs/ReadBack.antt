@@ -10,14 +10,14 @@ use mathlib.Core.List.{List, [], ◌∷◌, ◌++◌}
 use borrow.Author.Tests.{ltb-true, ltb-false, leb-true, eqb-true, eqb-false, lt-ltb, le-ltb, le-leb, lt-leb, ne_eqb}
 use lib.Dec.{leb, ltb, eqb}
 use lib.ListN.{length, get_or, get_or-append}
+use Rattle.std.proofs.Common.{Some}
 use Rattle.text.specs.Numerals.{digit, digits, places, hex, decimal}
 use Rattle.text.specs.Parsed.{digit_value, read_on, read_hex, leading_zero, read_decimal}
 use Rattle.text.specs.Rows.{ReadBack}
-use Rattle.text.specs.declared.read.Parsed.TheVariants.{Number}
 use Rattle.text.proofs.Numerals.{length_digits, one_place}
 use Rattle.text.proofs.Reading.{within, few_enough, if-passed, if-not, read_small, decimal_small}
 
-read_then : (b m : ℕ) (front back : List ℕ) (k : ℕ) → read_on b m front ≡ Number k → read_on b m (front ++ back) ≡ read_on b k back
+read_then : (b m : ℕ) (front back : List ℕ) (k : ℕ) → read_on b m front ≡ Some k → read_on b m (front ++ back) ≡ read_on b k back
 read_then b m [] back k e = let f : m ≡ k = cc in rw f
 read_then b m (byte ∷ front) back k e = let (digit, rest) = if-passed (ltb (digit_value byte) b) e in rw digit (read_then b (b * m + digit_value byte) front back k rest)
 
@@ -28,8 +28,8 @@ digit_value_of d h = by_test (ltb d 10) refl
     by_test true e = let k = ltb-true d 10 e in simp (le-leb 48 (48 + d) (omega arith), le-leb (48 + d) 57 (omega arith)) (omega arith)
     by_test false e = let k = ltb-false d 10 e in simp (le-leb 48 (87 + d) (omega arith), lt-leb (87 + d) 57 (omega arith), le-leb 97 (87 + d) (omega arith), le-leb (87 + d) 102 (omega arith)) (omega arith)
 
-read_back : (b k n : ℕ) → 1 < b → b ≤ 16 → n < b ^ k → read_on b 0 (digits b k n) ≡ Number n
-read_back b zero n h i j = let z : 0 ≡ n = omega (arith, pow-zero b) in ap Number z
+read_back : (b k n : ℕ) → 1 < b → b ≤ 16 → n < b ^ k → read_on b 0 (digits b k n) ≡ Some n
+read_back b zero n h i j = let z : 0 ≡ n = omega (arith, pow-zero b) in ap Some z
 read_back b (suc k) n h i j =
     let last = n % b in
     let below : last < b = mod-lt n (omega arith) in
@@ -93,10 +93,10 @@ not_led k n h = by_test (ltb n 10) refl
     by_test true t = rw (length_digits 10 (places k n) n, one_place k n (ltb-true n 10 t))
     by_test false t = rw (ne_eqb (get_or (digits 10 (places k n) n) 0 0) 48 (first_digit k n (omega (arith, ltb-false n 10 t)) h)) (and_false (ltb 1 (length (digits 10 (places k n) n))))
 
-so_many_back : (p n most : ℕ) → leading_zero (digits 10 p n) ≡ false → 1 ≤ p → p ≤ most → p ≤ 19 → n < 10 ^ p → read_decimal most (digits 10 p n) ≡ Number n
+so_many_back : (p n most : ℕ) → leading_zero (digits 10 p n) ≡ false → 1 ≤ p → p ≤ most → p ≤ 19 → n < 10 ^ p → read_decimal most (digits 10 p n) ≡ Some n
 so_many_back p n most e f g h i = rw (e, length_digits 10 p n, le-leb 1 p f, le-leb p most g, le-leb p 19 h) (read_back 10 p n (omega arith) (omega arith) i)
 
-decimal_back : (k n most : ℕ) → 1 ≤ most → most ≤ 19 → n < 10 ^ most → n < 10 ^ suc k → read_decimal most (digits 10 (places k n) n) ≡ Number n
+decimal_back : (k n most : ℕ) → 1 ≤ most → most ≤ 19 → n < 10 ^ most → n < 10 ^ suc k → read_decimal most (digits 10 (places k n) n) ≡ Some n
 decimal_back k n zero f g h i = absurd (omega arith)
 decimal_back k n (suc m) f g h i =
     let few = places_most k m n h in
@@ -139,7 +139,7 @@ last_off b m d h =
     (front ∙ rw (div-eq_of_lt h, add-zero m), mul-add-mod_self_left b m d ∙ mod-eq_of_lt h)
 
 -- the number so far is what the text after it leaves of the whole, and that text is the whole's last digits
-text_of : (b m : ℕ) (text : List ℕ) (n : ℕ) → b ≤ 16 → read_on b m text ≡ Number n
+text_of : (b m : ℕ) (text : List ℕ) (n : ℕ) → b ≤ 16 → read_on b m text ≡ Some n
     → (n / b ^ length text ≡ m) × (digits b (length text) n ≡ text)
 text_of b m [] n h e = let f : m ≡ n = cc in (rw (pow-zero b, div-one n) (sym f), refl)
 text_of b m (byte ∷ text) n h e =
@@ -153,7 +153,7 @@ text_of b m (byte ∷ text) n h e =
     (rw (pow-suc b k, ← div-div-eq-div-mul n (b ^ k) b, front) less, first_then b k n ∙ rw (first, back))
 
 -- 16 digits are read, and 16 are written
-hex_text : (text : List ℕ) (n : ℕ) → read_hex text ≡ Number n → (n < 2 ^ 64) × (text ≡ hex n)
+hex_text : (text : List ℕ) (n : ℕ) → read_hex text ≡ Some n → (n < 2 ^ 64) × (text ≡ hex n)
 hex_text text n e =
     let (all, read) = if-passed (eqb (length text) 16) e in
     let long = eqb-true (length text) 16 all in
@@ -170,8 +170,12 @@ places_are k p n h i j =
     let enough : p < places k n = lt_of_not-le (λ l. omega (arith, ten_to (places k n) p l)) in
     omega (arith, places_most k p n i)
 
+-- so many digits as the power of ten that n reaches, and one more
+pub one_over_power : (p n : ℕ) → n < 2 ^ 64 → 10 ^ p ≤ n → n < 10 * 10 ^ p → p + 1 ≡ length (decimal n)
+one_over_power p n h i j = omega (arith, length_digits 10 (places 19 n) n, places_are 19 p n i (rw (pow-succ' 10 p) j) (omega arith))
+
 -- a first digit that is no zero counts the power of its place
-not_less : (byte : ℕ) (text : List ℕ) (n : ℕ) → (byte ≡ 48 → ⊥) → read_on 10 0 (byte ∷ text) ≡ Number n
+not_less : (byte : ℕ) (text : List ℕ) (n : ℕ) → (byte ≡ 48 → ⊥) → read_on 10 0 (byte ∷ text) ≡ Some n
     → 10 ^ length text ≤ n
 not_less byte text n h e = let more : 10 ^ length text < suc n = lt_of_not-le (λ l. h (zero_byte l)) in omega arith
   where
@@ -184,7 +188,7 @@ not_less byte text n h e = let more : 10 ^ length text < suc n = lt_of_not-le (�
 
 -- one digit, or a first one that is no zero, is as many digits as places
 as_many : (most : ℕ) (text : List ℕ) (n : ℕ) → leading_zero text ≡ false → within (length text) most ≡ true
-    → read_on 10 0 text ≡ Number n → places 19 n ≡ length text
+    → read_on 10 0 text ≡ Some n → places 19 n ≡ length text
 as_many most [] n e f g = cc
 as_many most (byte ∷ []) n e f g = one_place 19 n (omega (arith, read_small 10 0 (byte ∷ []) n g))
 as_many most (byte ∷ next ∷ text) n e f g =
@@ -196,7 +200,7 @@ as_many most (byte ∷ next ∷ text) n e f g =
     places_are 19 k n (not_less byte rest n first g) (omega arith) (omega arith)
 
 -- the last digits of a number, as many as it has places, are its decimal
-decimal_text : (most : ℕ) (text : List ℕ) (n : ℕ) → read_decimal most text ≡ Number n → text ≡ decimal n
+decimal_text : (most : ℕ) (text : List ℕ) (n : ℕ) → read_decimal most text ≡ Some n → text ≡ decimal n
 decimal_text most text n e =
     let (unled, some) = if-not (leading_zero text) e in
     let (few, read) = if-passed (within (length text) most) some in

@@ -1,19 +1,16 @@
 -- Digits that are read from the first to the last: the number so far and the digits that are left make the whole.
 use Prim.Native.Nat.{ℕ, suc, ◌+◌, ◌*◌, ◌^◌, ◌≤◌, ◌<◌}
-use native.Mathlib.Nat.{zero-add, pow-zero, pow-succ', pow-le-pow_right, mul-le-mul_left, mul-le-mul_right}
-use native.Mathlib.Numerals.{add-one}
+use native.Mathlib.Nat.{pow-zero, pow-succ', pow-le-pow_right, mul-le-mul_left, mul-le-mul_right}
 use native.Mathlib.Omega.{arith}
-use mathlib.Core.Path.{◌≡◌, refl, sym, ap, ◌∙◌}
+use mathlib.Core.Path.{◌≡◌, refl}
 use mathlib.Core.Bool.{Bool, true, false, ◌&&◌, cond, and-eq-true_iff}
 use mathlib.Core.List.{List, [], ◌∷◌, ◌++◌}
-use borrow.Author.Tests.{ltb-true, leb-true, lt-ltb, le-ltb, le-leb, ne_eqb}
+use borrow.Author.Tests.{ltb-true, leb-true, ne_eqb}
 use lib.Dec.{leb, ltb}
 use lib.ListN.{length, get_or, drop, replicate, length-append, drop_of_length-le}
-use lib.Seq.{drop-cons}
-use Rattle.text.specs.Written.{written}
+use Rattle.std.proofs.Common.{Option, Some, None}
+use Rattle.text.specs.Inner.{digit_in}
 use Rattle.text.specs.Parsed.{digit_value, read_on, read_hex_start, leading_zero, read_digits, read_decimal}
-use Rattle.text.specs.declared.read.Parsed.{Parsed}
-use Rattle.text.specs.declared.read.Parsed.TheVariants.{Number, NotANumber}
 
 abbrev zeros : List ℕ
 zeros = replicate 16 48
@@ -35,61 +32,48 @@ pub record Read (b : ℕ) (text : List ℕ) (n i : ℕ) : Type 0 where
   pub small : n < b ^ i
   pub whole : read_on b n (drop i text) ≡ read_on b 0 text
 
-pub none_read : (b : ℕ) (text : List ℕ) → Read b text 0 0
-none_read b text = record { within = omega arith; small = rw (pow-zero b) (omega arith); whole = refl }
-
 -- one more digit makes a number of one more digit
 grown : (b n d i : ℕ) → n < b ^ i → d < b → b * n + d < b ^ suc i
 grown b n d i h k = rw (pow-succ' b i) (omega (arith, mul-le-mul_left b h))
 
-pub one_read : {b n i : ℕ} {text : List ℕ} → Read b text n i → i < length text → digit_value (get_or text i 0) < b → Read b text (b * n + digit_value (get_or text i 0)) (i + 1)
-one_read {b} {n} {i} {text} r h k = record {
-  within = omega arith;
-  small = rw (add-one i) (grown b n (digit_value (get_or text i 0)) i r.small k);
-  whole = rw (add-one i) (sym (rw (lt-ltb _ _ k) at (ap (read_on b n) (drop-cons text i 0 h))) ∙ r.whole);
-}
-
-pub not_read : {b n i : ℕ} {text : List ℕ} → Read b text n i → i < length text → b ≤ digit_value (get_or text i 0) → NotANumber ≡ read_on b 0 text
-not_read {b} {n} {i} {text} r h k = sym (rw (le-ltb _ _ k) at (ap (read_on b n) (drop-cons text i 0 h))) ∙ r.whole
-
-pub all_read : {b n i : ℕ} {text : List ℕ} → Read b text n i → length text ≤ i → Number n ≡ read_on b 0 text
+pub all_read : {b n i : ℕ} {text : List ℕ} → Read b text n i → length text ≤ i → Some n ≡ read_on b 0 text
 all_read {text = text} r h = rw (drop_of_length-le text h) at r.whole
 
--- what is read next still fits
-pub one_fits : {b n i : ℕ} {text : List ℕ} → Read b text n i → i < length text → digit_value (get_or text i 0) < b → b ^ length text ≤ 2 ^ 64 → b * n + digit_value (get_or text i 0) < 2 ^ 64
-one_fits {b} {n} {i} {text} r h k most =
-    omega (arith, grown b n (digit_value (get_or text i 0)) i r.small k, pow-le-pow_right {n = b} (omega arith) {i = suc i} {j = length text} h)
-
--- ---- a pattern that is cut short
-
-pub too_long : (text : List ℕ) → 16 < length text → NotANumber ≡ read_hex_start text
-too_long text h = rw (ne_eqb (length (text ++ zeros_after text)) 16 (λ e. omega (arith, length-append text (zeros_after text))))
-
-pub put_back : {whole : List ℕ} {end : ℕ} (text : List ℕ) → length text ≤ 16 → (end, whole) ≡ written zeros 0 text → whole ≡ text ++ zeros_after text
-put_back text h e = ap (λ p. p.1) (rw (zero-add (length text), le-leb _ _ h) at e)
-
--- ---- a number of k digits is below b ^ k
-
 -- a number comes of the branch that has one
-pub if-passed : {x : Parsed} {n : ℕ} (t : Bool) → cond t x NotANumber ≡ Number n → (t ≡ true) × (x ≡ Number n)
+pub if-passed : {x : Option ℕ} {n : ℕ} (t : Bool) → cond t x None ≡ Some n → (t ≡ true) × (x ≡ Some n)
 if-passed true e = (refl, e)
 if-passed false e = let z : ◌≡◌ {A = ℕ} 0 1 = cc in absurd (omega arith)
 
-pub if-not : {x : Parsed} {n : ℕ} (t : Bool) → cond t NotANumber x ≡ Number n → (t ≡ false) × (x ≡ Number n)
+pub if-not : {x : Option ℕ} {n : ℕ} (t : Bool) → cond t None x ≡ Some n → (t ≡ false) × (x ≡ Some n)
 if-not true e = let z : ◌≡◌ {A = ℕ} 0 1 = cc in absurd (omega arith)
 if-not false e = (refl, e)
 
-pub read_small : (b m : ℕ) (text : List ℕ) (n : ℕ) → read_on b m text ≡ Number n → n < suc m * b ^ length text
+-- what is read next still fits
+pub one_fits : {b n i d : ℕ} {text : List ℕ} → Read b text n i → i < length text → digit_in b (get_or text i 0) ≡ Some d → b ^ length text ≤ 2 ^ 64 → b * n + d < 2 ^ 64
+one_fits {b} {n} {i} {d} {text} r h e most =
+    let (test, same) = if-passed (ltb (digit_value (get_or text i 0)) b) e in
+    let f : digit_value (get_or text i 0) ≡ d = cc in
+    let below = rw f at (ltb-true (digit_value (get_or text i 0)) b test) in
+    omega (arith, grown b n d i r.small below, pow-le-pow_right {n = b} (omega arith) {i = suc i} {j = length text} h)
+
+-- ---- a pattern that is cut short
+
+pub too_long : (text : List ℕ) → 16 < length text → None ≡ read_hex_start text
+too_long text h = rw (ne_eqb (length (text ++ zeros_after text)) 16 (λ e. omega (arith, length-append text (zeros_after text))))
+
+-- ---- a number of k digits is below b ^ k
+
+pub read_small : (b m : ℕ) (text : List ℕ) (n : ℕ) → read_on b m text ≡ Some n → n < suc m * b ^ length text
 read_small b m [] n e = let f : m ≡ n = cc in rw (pow-zero b) (omega arith)
 read_small b m (byte ∷ text) n e =
     let (digit, rest) = if-passed (ltb (digit_value byte) b) e in
     let below : suc (b * m + digit_value byte) ≤ b * suc m = omega (arith, ltb-true (digit_value byte) b digit) in
     rw (pow-succ' b (length text)) (omega (arith, read_small b (b * m + digit_value byte) text n rest, mul-le-mul_right (b ^ length text) below))
 
-pub digits_small : (most : ℕ) (text : List ℕ) (n : ℕ) → read_digits most text ≡ Number n → n < 10 ^ most
+pub digits_small : (most : ℕ) (text : List ℕ) (n : ℕ) → read_digits most text ≡ Some n → n < 10 ^ most
 digits_small most text n e =
     let (few, read) = if-passed (within (length text) most) e in
     omega (arith, read_small 10 0 text n read, pow-le-pow_right {n = 10} (omega arith) {i = length text} {j = most} (few_enough (length text) most few).0)
 
-pub decimal_small : (most : ℕ) (text : List ℕ) (n : ℕ) → read_decimal most text ≡ Number n → n < 10 ^ most
+pub decimal_small : (most : ℕ) (text : List ℕ) (n : ℕ) → read_decimal most text ≡ Some n → n < 10 ^ most
 decimal_small most text n e = digits_small most text n (if-not (leading_zero text) e).1

@@ -1,20 +1,19 @@
 -- What the rules come to: worked rows, proved in proofs/Rows.antt by computation; and that a number which is written is
 -- read back, and that what is read is the text of that number alone, proved in proofs/ReadBack.antt.
-use Rattle.std.specs.Prelude.{ℕ, ◌^◌, ◌≤◌, ◌<◌, ◌≡◌, List, [], ◌∷◌}
+use Rattle.std.specs.Prelude.{ℕ, ◌^◌, ◌≤◌, ◌<◌, ◌≡◌, Some, None, List, [], ◌∷◌}
 use Rattle.text.specs.Numerals.{bytes, digits, hex, decimal}
 use Rattle.text.specs.Written.{written}
 use Rattle.text.specs.Parsed.{read_hex, read_hex_start, read_digits, read_decimal}
-use Rattle.text.specs.declared.read.Parsed.TheVariants.{Number, NotANumber}
 
 pub record ReadBack : Type 0 where
   -- a number of 64 bits that is written in hex is read back
-  pub hex_back : (n : ℕ) → n < 2 ^ 64 → read_hex (hex n) ≡ Number n
+  pub hex_back : (n : ℕ) → n < 2 ^ 64 → read_hex (hex n) ≡ Some n
   -- so is a number of at most 19 digits that is written in decimal
-  pub decimal_back : (n most : ℕ) → 1 ≤ most → most ≤ 19 → n < 10 ^ most → read_decimal most (decimal n) ≡ Number n
+  pub decimal_back : (n most : ℕ) → 1 ≤ most → most ≤ 19 → n < 10 ^ most → read_decimal most (decimal n) ≡ Some n
   -- what is read as hex is the text of that number, and of no other
-  pub hex_alone : (text : List ℕ) (n : ℕ) → read_hex text ≡ Number n → (n < 2 ^ 64) × (text ≡ hex n)
+  pub hex_alone : (text : List ℕ) (n : ℕ) → read_hex text ≡ Some n → (n < 2 ^ 64) × (text ≡ hex n)
   -- what is read as a decimal is the text of that number, and of no other
-  pub decimal_alone : (most : ℕ) (text : List ℕ) (n : ℕ) → read_decimal most text ≡ Number n
+  pub decimal_alone : (most : ℕ) (text : List ℕ) (n : ℕ) → read_decimal most text ≡ Some n
       → (n < 10 ^ most) × (text ≡ decimal n)
 
 -- three bytes that are lent
@@ -34,18 +33,18 @@ pub record EveryRow : Type 0 where
   pub too_long : written ones 2 (bytes "10") ≡ (2, ones)
   pub nothing : written ones 3 [] ≡ (3, ones)
   pub far_off : written ones 0xffff_ffff_ffff_ffff (bytes "10") ≡ (0xffff_ffff_ffff_ffff, ones)
-  pub upper_case : read_hex (bytes "3FF0000000000000") ≡ NotANumber
-  pub fifteen_digits : read_hex (bytes "3ff000000000000") ≡ NotANumber
-  pub seventeen_digits : read_hex (bytes "3ff00000000000000") ≡ NotANumber
-  pub three_digits : read_hex_start (bytes "3ff") ≡ Number 0x3ff0_0000_0000_0000
-  pub one_too_many : read_hex_start (bytes "3ff00000000000000") ≡ NotANumber
-  pub leading_zeros : read_digits 8 (bytes "00000160") ≡ Number 160
-  pub six_digits : read_digits 5 (bytes "000160") ≡ NotANumber
-  pub no_digit : read_digits 5 [] ≡ NotANumber
-  pub a_sign : read_digits 5 (bytes "-160") ≡ NotANumber
-  pub a_letter : read_digits 5 (bytes "16a") ≡ NotANumber
-  pub twenty_digits : read_digits 20 (bytes "00000000000000000160") ≡ NotANumber
-  pub zero_alone : read_decimal 5 (bytes "0") ≡ Number 0
-  pub zero_first : read_decimal 5 (bytes "05") ≡ NotANumber
-  pub two_zeros : read_decimal 5 (bytes "00") ≡ NotANumber
-  pub largest : read_decimal 5 (bytes "99999") ≡ Number 99999
+  pub upper_case : read_hex (bytes "3FF0000000000000") ≡ None
+  pub fifteen_digits : read_hex (bytes "3ff000000000000") ≡ None
+  pub seventeen_digits : read_hex (bytes "3ff00000000000000") ≡ None
+  pub three_digits : read_hex_start (bytes "3ff") ≡ Some 0x3ff0_0000_0000_0000
+  pub one_too_many : read_hex_start (bytes "3ff00000000000000") ≡ None
+  pub leading_zeros : read_digits 8 (bytes "00000160") ≡ Some 160
+  pub six_digits : read_digits 5 (bytes "000160") ≡ None
+  pub no_digit : read_digits 5 [] ≡ None
+  pub a_sign : read_digits 5 (bytes "-160") ≡ None
+  pub a_letter : read_digits 5 (bytes "16a") ≡ None
+  pub twenty_digits : read_digits 20 (bytes "00000000000000000160") ≡ None
+  pub zero_alone : read_decimal 5 (bytes "0") ≡ Some 0
+  pub zero_first : read_decimal 5 (bytes "05") ≡ None
+  pub two_zeros : read_decimal 5 (bytes "00") ≡ None
+  pub largest : read_decimal 5 (bytes "99999") ≡ Some 99999

@@ -1,31 +1,27 @@
-// Numbers out of texts, each text read to its end.
+// Numbers out of texts, each text read to its end; `None` where it is no such number.
 ghost use Rattle.std.specs.Prelude.{◌≤◌, ◌^◌, ◌≡◌, length};
-ghost use Rattle.text.specs.Parsed.{digit_value, leading_zero, read_on, read_hex, read_hex_start, read_digits, read_decimal};
+ghost use Rattle.text.specs.Parsed.{leading_zero, read_on, read_hex, read_hex_start, read_digits, read_decimal};
+ghost use Rattle.text.specs.Inner.{digit_in};
 
 use crate::write::HEX_DIGITS;
 
-#[derive(Clone, Copy)]
-pub enum Parsed {
-    Number(u64),
-    NotANumber,
-}
-
 // Reads 16 hex digits in lower case, as a pattern of 64 bits is written.
-pub fn read_hex(text: &[u8]) -> Parsed
+pub fn read_hex(text: &[u8]) -> Option<u64>
     ensures { result ≡ read_hex text.now }
 {
-    if text.len() != HEX_DIGITS {
-        return Parsed::NotANumber;
+    if text.len() == HEX_DIGITS {
+        value(text, 16)
+    } else {
+        None
     }
-    value(text, 16)
 }
 
 // Reads a pattern whose last digits are left out where they are zeros.
-pub fn read_hex_start(text: &[u8]) -> Parsed
+pub fn read_hex_start(text: &[u8]) -> Option<u64>
     ensures { result ≡ read_hex_start text.now }
 {
     if HEX_DIGITS < text.len() {
-        return Parsed::NotANumber;
+        return None;
     }
     let mut whole = [b'0'; HEX_DIGITS];
     crate::write::write_text(&mut whole, 0, text);
@@ -33,24 +29,26 @@ pub fn read_hex_start(text: &[u8]) -> Parsed
 }
 
 // Reads 1 to `most` decimal digits, and at most 19.
-pub fn read_digits(text: &[u8], most: usize) -> Parsed
+pub fn read_digits(text: &[u8], most: usize) -> Option<u64>
     ensures { result ≡ read_digits most text.now }
 {
     let count = text.len();
-    if !((1 <= count) & (count <= most) & (count <= MOST_DIGITS)) {
-        return Parsed::NotANumber;
+    if 1 <= count && count <= most && count <= MOST_DIGITS {
+        value(text, 10)
+    } else {
+        None
     }
-    value(text, 10)
 }
 
 // Reads 1 to `most` decimal digits, and at most 19, with no leading zero.
-pub fn read_decimal(text: &[u8], most: usize) -> Parsed
+pub fn read_decimal(text: &[u8], most: usize) -> Option<u64>
     ensures { result ≡ read_decimal most text.now }
 {
     if has_leading_zero(text) {
-        return Parsed::NotANumber;
+        None
+    } else {
+        read_digits(text, most)
     }
-    read_digits(text, most)
 }
 
 // As many decimal digits as 64 bits hold, whichever they are.
@@ -59,38 +57,31 @@ const MOST_DIGITS: usize = 19;
 fn has_leading_zero(text: &[u8]) -> bool
     ensures { result ≡ leading_zero text.now }
 {
-    if text.len() <= 1 {
-        return false;
-    }
-    text[0] == b'0'
+    matches!(text, [b'0', _, ..])
 }
 
 // The number that all bytes of the text make as digits of a base.
-fn value(text: &[u8], base: u64) -> Parsed
+fn value(text: &[u8], base: u64) -> Option<u64>
     requires { (base ≤ 16) × (base ^ length text.now ≤ 2 ^ 64) }
     ensures { result ≡ read_on base 0 text.now }
 {
     let mut n = 0;
-    let mut i = 0;
-    while i < text.len() {
-        let digit = digit_value(text[i]);
-        if base <= digit {
-            return Parsed::NotANumber;
-        }
+    for &byte in text {
+        let digit = digit_value(byte, base)?;
         n = base * n + digit;
-        i += 1;
     }
-    Parsed::Number(n)
+    Some(n)
 }
 
-fn digit_value(byte: u8) -> u64
-    ensures { result ≡ digit_value byte }
+// The value of a byte as a digit of a base up to 16.
+fn digit_value(byte: u8, base: u64) -> Option<u64>
+    requires { base ≤ 16 }
+    ensures { result ≡ digit_in base byte }
 {
-    if (b'0' <= byte) & (byte <= b'9') {
-        return byte as u64 - 48;
-    }
-    if (b'a' <= byte) & (byte <= b'f') {
-        return byte as u64 - 87;
-    }
-    16
+    let value = match byte {
+        b'0'..=b'9' => byte as u64 - 48,
+        b'a'..=b'f' => byte as u64 - 87,
+        _ => return None,
+    };
+    if value < base { Some(value) } else { None }
 }

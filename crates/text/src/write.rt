@@ -1,5 +1,6 @@
 // Texts into lent bytes. Each writer answers the place behind what it wrote; where there is no room for all of it, it
-// writes nothing and answers `at`.
+// writes nothing and answers `at`. A place goes in and a place comes out, with no cursor and no `Option`: these
+// signatures and `written` are what callers were promised.
 ghost use Rattle.std.specs.Prelude.{◌+◌, ◌≤◌, ◌<◌, ◌≡◌, leb, length};
 ghost use Rattle.text.specs.Numerals.{digit, digits, hex, decimal};
 ghost use Rattle.text.specs.Written.{written};
@@ -12,7 +13,9 @@ pub fn write_text(out: &mut [u8], at: usize, text: &[u8]) -> usize
     if !has_room(out.len(), at, text.len()) {
         return at;
     }
-    copy(out, at, text)
+    let end = at + text.len();
+    out[at..end].copy_from_slice(text);
+    end
 }
 
 // Writes the 16 hex digits of a pattern of 64 bits.
@@ -47,13 +50,7 @@ pub fn write_digits(out: &mut [u8], at: usize, n: u64, places: usize) -> usize
 pub fn decimal_length(n: u64) -> usize
     ensures { result ≡ length (decimal n) }
 {
-    let mut places = 1;
-    let mut rest = n;
-    while 10 <= rest {
-        rest /= 10;
-        places += 1;
-    }
-    places
+    n.checked_ilog10().map_or(1, |power| power as usize + 1)
 }
 
 pub(crate) const HEX_DIGITS: usize = 16;
@@ -70,22 +67,7 @@ const QUARTER_DIGITS: usize = 4;
 fn has_room(length: usize, at: usize, count: usize) -> bool
     ensures { result ≡ leb (at + count) length }
 {
-    if length < at {
-        return false;
-    }
-    count <= length - at
-}
-
-fn copy(out: &mut [u8], at: usize, text: &[u8]) -> usize
-    requires { at + length text.now ≤ length out.old }
-    ensures { Wrote out.old at text.now out.new result }
-{
-    let mut i = 0;
-    while i < text.len() {
-        out[at + i] = text[i];
-        i += 1;
-    }
-    at + i
+    at <= length && count <= length - at
 }
 
 // Writes the 8 hex digits of 32 bits.
@@ -128,14 +110,14 @@ fn fill(out: &mut [u8], at: usize, n: u64, base: u64, places: usize) -> usize
     requires { (1 < base) × (base ≤ 16) × (at + places ≤ length out.old) }
     ensures { Wrote out.old at (digits base places n) out.new result }
 {
-    let mut left = places;
+    let end = at + places;
     let mut rest = n;
-    while 0 < left {
-        left -= 1;
-        out[at + left] = digit(rest % base);
+    // By place: of what is written through an iterator, a proof knows the length alone.
+    for place in (at..end).rev() {
+        out[place] = digit(rest % base);
         rest /= base;
     }
-    at + places
+    end
 }
 
 fn digit(d: u64) -> u8

@@ -1,20 +1,8 @@
 -- A part lies within the intervals; and the first parts are the first intervals.
 use Rattle.std.proofs.Common.{◌≡◌, ℕ, zero, suc, ◌+◌, ◌-◌, ◌*◌, ◌<◌, ◌≤◌, min, List, ◌++◌, length, take, sym, ap, ◌∙◌, arith, length-drop, length-take, take-add}
 use lib.Seq.{take-length}
-use Rattle.track.specs.declared.parts.Part.{Part}
 use Rattle.track.specs.Parts.{part_count, part}
 use Rattle.track.specs.Laws.{piece, pieces, Covered}
-
--- both ends at once
-pub part_of : (n i : ℕ) {from end : ℕ} → from ≡ min (1024 * i) n → end ≡ min (1024 * i + 1024) n → ◌≡◌ {A = Part} (record { from = from; end = end }) (part n i)
-part_of n i d e = rw (d, e)
-
--- what a caller that cuts a slice has to show
-pub within : (n i : ℕ) → ((part n i).from ≤ (part n i).end) × ((part n i).end ≤ n)
-within n i = (omega arith, omega arith)
-
-pub within_of : {p : Part} (n i : ℕ) → p ≡ part n i → (p.from ≤ p.end) × (p.end ≤ n)
-within_of n i e = rw e (within n i)
 
 length_piece : (xs : List ℕ) (i : ℕ) → length (piece xs i) ≡ (part (length xs) i).end - (part (length xs) i).from
 length_piece xs i = simp (length-take, length-drop) (omega arith)

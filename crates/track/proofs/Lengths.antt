@@ -1,5 +1,5 @@
 -- An interval has 1 to 8 cells.
-use Rattle.std.proofs.Common.{◌≡◌, ℕ, suc, ◌≤◌, Bool, true, false, cond, List, [], ◌∷◌, length, le_antisymm, arith}
+use Rattle.std.proofs.Common.{ℕ, suc, ◌≤◌, Bool, true, false, cond, List, [], ◌∷◌, length, arith}
 use lib.Ieee.{Float, binary64, mul, lt, of_bits}
 use Rattle.track.specs.Cells.{in_cells, boundaries, first_above, nearest_cells}
 
@@ -14,11 +14,3 @@ one_to_all seen t (b ∷ bs) = by_test (lt t (mul binary64 (of_bits binary64 b) 
 pub one_to_eight : (seen : Float) (ticks : ℕ) → (1 ≤ nearest_cells seen ticks) × (nearest_cells seen ticks ≤ 8)
 unfolding nearest_cells
 one_to_eight seen ticks = one_to_all seen (in_cells ticks) boundaries
-
--- the last arm of a table: none of 1 to 7
-module _ (n : ℕ) where
-  next : (k : ℕ) → k ≤ n → (n ≡ k → ⊥) → suc k ≤ n
-  next k h e = omega arith
-
-  pub eight : (1 ≤ n) × (n ≤ 8) → (n ≡ 1 → ⊥) → (n ≡ 2 → ⊥) → (n ≡ 3 → ⊥) → (n ≡ 4 → ⊥) → (n ≡ 5 → ⊥) → (n ≡ 6 → ⊥) → (n ≡ 7 → ⊥) → n ≡ 8
-  eight (h, k) a b c d e f g = le_antisymm k (next 7 (next 6 (next 5 (next 4 (next 3 (next 2 (next 1 h a) b) c) d) e) f) g)

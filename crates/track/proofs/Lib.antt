@@ -2,6 +2,7 @@ pub mod Totals
 pub mod Sums
 pub mod Searched
 pub mod Lengths
+pub mod Boundaries
 pub mod Covered
 pub mod EachOnce
 pub mod Middle

@@ -1,5 +1,5 @@
 // An interval in bit cells, and what it weighs in the misfit. `seen` is how long a cell is as the drive reads it, in
-// nominal cells of 80 ticks, which are 2,000 ns.
+// nominal cells of 80 ticks, which are 2,000 ns. It goes beside the ticks in every call, as the promises have it.
 ghost use Rattle.std.specs.Prelude.{◌≡◌, ◌≤◌};
 ghost use Rattle.track.specs.Cells.{boundaries, first_above, nearest_cells, root, clip, weighed, off, of_length, one_if_off, cells_if_pulling, square_if_pulling};
 ghost use Rattle.track.specs.Total.{total, float_total};
@@ -46,26 +46,17 @@ pub fn is_off(ticks: u32, seen: f64) -> bool
 pub fn count_cells(ticks: &[u32], seen: f64, cells: usize) -> usize
     ensures { result ≡ total (of_length seen cells) ticks.now }
 {
-    let mut count = 0;
-    for i in 0..ticks.len() {
-        if nearest_cells(ticks[i], seen) == cells {
-            count += 1;
-        }
-    }
-    count
+    ticks
+        .iter()
+        .filter(|t| nearest_cells(**t, seen) == cells)
+        .count()
 }
 
 // How many of the intervals are off.
 pub fn count_off(ticks: &[u32], seen: f64) -> usize
     ensures { result ≡ total (one_if_off seen) ticks.now }
 {
-    let mut count = 0;
-    for i in 0..ticks.len() {
-        if is_off(ticks[i], seen) {
-            count += 1;
-        }
-    }
-    count
+    ticks.iter().filter(|t| is_off(**t, seen)).count()
 }
 
 // How many cells the intervals that pull have together.
@@ -73,9 +64,9 @@ pub fn pulling_cells(ticks: &[u32], seen: f64) -> usize
     ensures { result ≡ total (cells_if_pulling seen) ticks.now }
 {
     let mut cells = 0;
-    for i in 0..ticks.len() {
-        if !is_off(ticks[i], seen) {
-            cells += nearest_cells(ticks[i], seen);
+    for &t in ticks {
+        if !is_off(t, seen) {
+            cells += nearest_cells(t, seen);
         }
     }
     cells
@@ -86,8 +77,8 @@ pub fn pulling_squares(ticks: &[u32], seen: f64) -> f64
     ensures { result ≡ float_total (square_if_pulling seen) ticks.now }
 {
     let mut sum = 0.0;
-    for i in 0..ticks.len() {
-        sum += square_if_pulling(ticks[i], seen);
+    for &t in ticks {
+        sum += square_if_pulling(t, seen);
     }
     sum
 }
@@ -101,52 +92,42 @@ fn square_if_pulling(ticks: u32, seen: f64) -> f64
         return 0.0;
     }
     let cells = nearest_cells(ticks, seen);
-    let x = ticks as f64 / CELL - std::num::nearest_u64_to_f64(cells as u64) * seen;
+    let x = ticks as f64 / CELL - std::num::nearest_usize_to_f64(cells) * seen;
     x * x
 }
+
+// From the k-th on there are more than k cells.
+const BOUNDARIES: [f64; 7] = [1.5, 2.5, 3.5, 4.5, 5.5, 6.5, 7.5];
 
 fn nearest(t: f64, seen: f64) -> usize
     ensures { result ≡ first_above seen t boundaries }
 {
-    if t < 1.5 * seen {
-        return 1;
+    for (i, boundary) in BOUNDARIES.iter().enumerate() {
+        if t < *boundary * seen {
+            return i + 1;
+        }
     }
-    if t < 2.5 * seen {
-        return 2;
-    }
-    if t < 3.5 * seen {
-        return 3;
-    }
-    if t < 4.5 * seen {
-        return 4;
-    }
-    if t < 5.5 * seen {
-        return 5;
-    }
-    if t < 6.5 * seen {
-        return 6;
-    }
-    if t < 7.5 * seen {
-        return 7;
-    }
-    8
+    BOUNDARIES.len() + 1
 }
 
-// The root of so many cells, to the nearest double.
+// The roots of 1 to 8, each to the nearest double.
+const ROOTS: [f64; 8] = [
+    1.0,
+    1.4142135623730951,
+    1.7320508075688772,
+    2.0,
+    2.23606797749979,
+    2.449489742783178,
+    2.6457513110645907,
+    2.8284271247461903,
+];
+
+// The root of so many cells.
 fn root(cells: usize) -> f64
     requires { (1 ≤ cells) × (cells ≤ 8) }
     ensures { result ≡ root cells }
 {
-    match cells {
-        1 => 1.0,
-        2 => 1.4142135623730951,
-        3 => 1.7320508075688772,
-        4 => 2.0,
-        5 => 2.23606797749979,
-        6 => 2.449489742783178,
-        7 => 2.6457513110645907,
-        _ => 2.8284271247461903,
-    }
+    ROOTS[cells - 1]
 }
 
 // A sixteenth over so many cells.
@@ -154,14 +135,5 @@ fn clip(cells: usize) -> f64
     requires { (1 ≤ cells) × (cells ≤ 8) }
     ensures { result ≡ clip cells }
 {
-    match cells {
-        1 => 1.0 / 16.0,
-        2 => 1.0 / 32.0,
-        3 => 1.0 / 48.0,
-        4 => 1.0 / 64.0,
-        5 => 1.0 / 80.0,
-        6 => 1.0 / 96.0,
-        7 => 1.0 / 112.0,
-        _ => 1.0 / 128.0,
-    }
+    1.0 / std::num::nearest_usize_to_f64(16 * cells)
 }

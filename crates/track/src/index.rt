@@ -6,13 +6,14 @@ ghost use Rattle.track.specs.Total.{float_total};
 // A turn at 300 rpm, in ticks of 25 ns.
 pub const TURN: f64 = 8_000_000.0;
 
-// The middle one of the times, of an even number the lower of the two; 0 where there is none.
+// The middle one of the times, of an even number the lower of the two; 0 where there is none, and no Option, as the
+// promise has it. By counting: to sort them would need a copy, and there is no heap.
 pub fn median(times: &[u32]) -> u32
     ensures { result ≡ median times.now }
 {
-    for i in 0..times.len() {
-        if is_middle(times, times[i]) {
-            return times[i];
+    for &time in times {
+        if is_middle(times, time) {
+            return time;
         }
     }
     0
@@ -22,10 +23,7 @@ pub fn median(times: &[u32]) -> u32
 pub fn is_apart(time: u32, median: u32) -> bool
     ensures { result ≡ apart time median }
 {
-    if time < median {
-        return median - time > APART;
-    }
-    time - median > APART
+    time.abs_diff(median) > APART
 }
 
 // How far the times that are not apart from the median are from `turn`, in nominal turns: the squares, added from the
@@ -34,8 +32,8 @@ pub fn index_squares(times: &[u32], median: u32, turn: f64) -> f64
     ensures { result ≡ float_total (square_if_counted median turn) times.now }
 {
     let mut sum = 0.0;
-    for i in 0..times.len() {
-        sum += square_if_counted(times[i], median, turn);
+    for &time in times {
+        sum += square_if_counted(time, median, turn);
     }
     sum
 }
@@ -59,29 +57,7 @@ fn is_middle(times: &[u32], time: u32) -> bool
 {
     let n = times.len();
     let half = n - n / 2;
-    (count_below(times, time) < half) & (half <= count_at_most(times, time))
-}
-
-fn count_below(times: &[u32], time: u32) -> usize
-    ensures { result ≡ below time times.now }
-{
-    let mut count = 0;
-    for i in 0..times.len() {
-        if times[i] < time {
-            count += 1;
-        }
-    }
-    count
-}
-
-fn count_at_most(times: &[u32], time: u32) -> usize
-    ensures { result ≡ at_most time times.now }
-{
-    let mut count = 0;
-    for i in 0..times.len() {
-        if times[i] <= time {
-            count += 1;
-        }
-    }
-    count
+    let below = times.iter().filter(|t| **t < time).count();
+    let at_most = times.iter().filter(|t| **t <= time).count();
+    below < half && half <= at_most
 }

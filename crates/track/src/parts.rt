@@ -5,7 +5,8 @@ ghost use Rattle.track.specs.Parts.{part_count, part};
 // How many intervals a part has at most.
 pub const PART: usize = 1_024;
 
-// Which intervals of the turn a part has: those from `from` on and before `end`.
+// Which intervals of the turn a part has: those from `from` on and before `end`. A `Range` is no `Copy`, and the laws of
+// parts speak of this one.
 #[derive(Clone, Copy)]
 pub struct Part {
     pub from: usize,
@@ -16,31 +17,16 @@ pub struct Part {
 pub fn part_count(intervals: usize) -> usize
     ensures { result ≡ part_count intervals }
 {
-    if intervals == 0 {
-        return 0;
-    }
-    (intervals - 1) / PART + 1
+    intervals.div_ceil(PART)
 }
 
 // Part i of so many intervals, from 0 on. Past the last part it is empty, at the end.
 pub fn part_at(intervals: usize, i: usize) -> Part
     ensures { result ≡ part intervals i }
 {
-    if i >= part_count(intervals) {
-        return Part {
-            from: intervals,
-            end: intervals,
-        };
-    }
-    let from = i * PART;
-    if intervals - from < PART {
-        return Part {
-            from,
-            end: intervals,
-        };
-    }
+    let from = i.saturating_mul(PART).min(intervals);
     Part {
         from,
-        end: from + PART,
+        end: from.saturating_add(PART).min(intervals),
     }
 }

@@ -4,7 +4,7 @@ use mathlib.Core.Bool.{Bool, true}
 use borrow.Author.Tests.{lt-leb, le-leb}
 use lib.Dec.{T}
 use lib.Ieee.{Float, binary64, fits, of_bits}
-use Rattle.root.proofs.Cases.{not_nan, no_nan}
+use Rattle.root.proofs.Cases.{no_nan}
 use Rattle.forward.proofs.Rest.{signed, no_nan_left, no_nan_right, finite_size, of_nan, of_no_rest, of_unbounded, of_rest}
 use Rattle.forward.proofs.remainder.remainder.Goals as goal
 
@@ -12,21 +12,21 @@ use Rattle.forward.proofs.remainder.remainder.Goals as goal
 held : (x : Float) → fits binary64 x ≡ true → T (fits binary64 x)
 held x h = subst T (sym h) tt
 
-pub returns-then-x-y : goal.returns-then-x-y
-returns-then-x-y c = of_nan c.args.x c.args.y c.if-x-y.true
+pub returns-then-is_nan : goal.returns-then-is_nan
+returns-then-is_nan c = of_nan c.args.x c.args.y (rw (c.is_nan.ensures.value, c.is_nan-2.ensures.value) at c.if-is_nan.true)
 
 pub float_to_bits-bits : goal.float_to_bits-bits
-float_to_bits-bits c = not_nan c.args.x (no_nan_left c.args.x c.args.y c.if-x-y.false)
+float_to_bits-bits c = no_nan_left c.args.x c.args.y (rw (c.is_nan.ensures.value, c.is_nan-2.ensures.value) at c.if-is_nan.false)
 
 pub float_to_bits-divisor : goal.float_to_bits-divisor
-float_to_bits-divisor c = not_nan c.args.y (no_nan_right c.args.x c.args.y c.if-x-y.false)
+float_to_bits-divisor c = no_nan_right c.args.x c.args.y (rw (c.is_nan.ensures.value, c.is_nan-2.ensures.value) at c.if-is_nan.false)
 
 pub returns-then-size-divisor : goal.returns-then-size-divisor
 returns-then-size-divisor c = of_no_rest c.args.x c.args.y (held c.args.x c.well_formed.0.1) (held c.args.y c.well_formed.1.0.1) c.if-size-divisor.true
 
 pub returns-then-divisor-ge-INFINITY : goal.returns-then-divisor-ge-INFINITY
 returns-then-divisor-ge-INFINITY c =
-    of_unbounded c.args.x c.args.y (held c.args.x c.well_formed.0.1) (held c.args.y c.well_formed.1.0.1) (no_nan_right c.args.x c.args.y c.if-x-y.false) (finite_size _ _ c.if-size-divisor.false).0 c.if-divisor-ge-INFINITY.true
+    of_unbounded c.args.x c.args.y (held c.args.x c.well_formed.0.1) (held c.args.y c.well_formed.1.0.1) (no_nan_right c.args.x c.args.y (rw (c.is_nan.ensures.value, c.is_nan-2.ensures.value) at c.if-is_nan.false)) (finite_size _ _ c.if-size-divisor.false).0 c.if-divisor-ge-INFINITY.true
 
 pub float_from_bits-rest : goal.float_from_bits-rest
 float_from_bits-rest c = no_nan c.rest_of-rest.result c.rest_of-rest.ensures.below

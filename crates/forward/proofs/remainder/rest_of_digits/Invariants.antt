@@ -2,5 +2,5 @@
 use Rattle.std.proofs.Common.{◌≡◌, ◌*◌, ◌%◌, ◌^◌, ◌<◌}
 use Rattle.forward.proofs.remainder.rest_of_digits.Given as goal
 
-abbrev pub invariant-loop-i : goal.invariant-loop-i
-invariant-loop-i l = (l.rest ≡ l.m * 2 ^ l.i % l.n) × (l.rest < l.n)
+abbrev pub invariant-loop : goal.invariant-loop
+invariant-loop l = (l.rest ≡ l.m * 2 ^ l.counter % l.n) × (l.rest < l.n)

@@ -1,10 +1,7 @@
 -- A search from no decimals on.
 use Rattle.std.proofs.Common.{sym, ◌∙◌}
-use Rattle.imaging.proofs.Searched.{none_searched, one_searched, found, none_found}
+use Rattle.imaging.proofs.Searched.{one_searched, found, none_found}
 use Rattle.imaging.proofs.digits.error_places.Goals as goal
-
-pub loop-places-init : goal.loop-places-init
-loop-places-init c = none_searched _
 
 pub returns-then-shows_two_digits : goal.returns-then-shows_two_digits
 returns-then-shows_two_digits c =

@@ -1,23 +1,9 @@
--- Only a NaN differs from itself, and its bits are those that the code answers.
-use mathlib.Core.Path.{◌≡◌, sym, ap, subst}
-use mathlib.Core.Bool.{true, false, not}
-use lib.Dec.{T}
-use lib.Ieee.{Float, nan, inf, fin, binary64, eq, ne, is_nan, to_bits}
-use lib.Ieee.Compare.{differs_from_itself}
+-- Of NaN `lib.Ieee` has one pattern, which the code answers.
+use mathlib.Core.Path.{sym, ap, ◌∙◌}
+use lib.Ieee.{binary64, to_bits}
+use Rattle.listing.proofs.Nan.{only_nan}
 use Rattle.listing.proofs.bits.bits_of.Goals as goal
 
-nan_bits : (x : Float) → ne x x ≡ true → to_bits binary64 nan ≡ to_bits binary64 x
-nan_bits x e = ap (to_bits binary64) (sym (differs_from_itself x (subst T (sym e) tt)))
-
-no_nan : (x : Float) → ne x x ≡ false → T (not (is_nan x))
-unfolding ne eq is_nan
-no_nan nan e = subst T e tt
-no_nan (inf s) e = tt
-no_nan (fin s m d) e = tt
-
-pub returns-then-x : goal.returns-then-x
+pub returns-then-is_nan : goal.returns-then-is_nan
 unfolding to_bits
-returns-then-x c = nan_bits c.args.x c.if-x.true
-
-pub float_to_bits-result : goal.float_to_bits-result
-float_to_bits-result c = no_nan c.args.x c.if-x.false
+returns-then-is_nan c = ap (to_bits binary64) (only_nan c.args.x (sym c.is_nan.ensures.value ∙ c.if-is_nan.true))

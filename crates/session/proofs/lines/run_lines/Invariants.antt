@@ -1,21 +1,17 @@
--- What is left to be run comes to what the whole comes to (`Running`).
-use Prim.Native.Nat.{◌-◌}
+-- The lines that are left, run on the machine so far, come to what all of them come to.
+use Prim.Native.Nat.{◌+◌, ◌≤◌}
 use mathlib.Core.Path.{◌≡◌}
 use lib.ListN.{length}
-use Rattle.tape.specs.Machine.{arrays, machine}
+use Rattle.tape.specs.Machine.{SameArrays, machine, lent_mut}
 use Rattle.session.specs.Session.{lines, run_lines}
 use Rattle.session.specs.Inner.{reading}
-use Rattle.session.proofs.Turns.{Running}
 use Rattle.session.proofs.lines.run_lines.Given as goal
 
-abbrev pub invariant-loop-at : goal.invariant-loop-at
-invariant-loop-at l = Running l.session (run_lines reading 1 (lines l.session) (machine l.initial.state (arrays l.initial.value l.initial.adjoint l.initial.serial l.initial.count l.initial.child l.initial.partial))) l.at l.line (machine l.state (arrays l.value l.adjoint l.serial l.count l.child l.partial))
-    × (length l.value ≡ length l.initial.value)
-    × (length l.adjoint ≡ length l.initial.adjoint)
-    × (length l.serial ≡ length l.initial.serial)
-    × (length l.count ≡ length l.initial.count)
-    × (length l.child ≡ length l.initial.child)
-    × (length l.partial ≡ length l.initial.partial)
-
-abbrev pub decreases-loop-at : goal.decreases-loop-at
-decreases-loop-at l = length l.session - l.at
+abbrev pub invariant-loop-line : goal.invariant-loop-line
+invariant-loop-line l = record {
+  goes : (goal.iterator-loop-line).can_next l.line-iterator;
+  ends : (goal.iterator-loop-line).is_finite l.line-iterator;
+  left : run_lines reading l.line-iterator.a.start (lines l.line-iterator.b.rest.now) (machine l.state (lent_mut l.nodes l.adjoint)) ≡ run_lines reading 1 (lines l.session) (machine l.fn.tape (lent_mut l.initial.nodes l.initial.adjoint));
+  few : l.line-iterator.a.start + length l.line-iterator.b.rest.now ≤ 65537;
+  same : SameArrays l.initial.nodes l.nodes;
+}

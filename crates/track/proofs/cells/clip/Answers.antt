@@ -1,37 +1,13 @@
--- By each arm; the last has what is left, 8.
-use Rattle.std.proofs.Common.{◌≡◌, arith}
-use lib.Ieee.{div, of_int, of_bits}
-use Rattle.track.specs.Cells.{clip}
+-- By the same division.
+use Rattle.std.proofs.Common.{◌≡◌, refl}
+use lib.Ieee.{binary64, of_int, of_bits}
+use Rattle.track.specs.Cells.{float, clip}
 use Rattle.track.proofs.cells.clip.Goals as goal
 
-pub returns-in-1 : goal.returns-in-1
-unfolding clip div of_int of_bits
-returns-in-1 c = rw c.in-1.is
+one : of_bits binary64 0x3ff0_0000_0000_0000 ≡ float 1
+unfolding of_int of_bits
+one = refl
 
-pub returns-in-2 : goal.returns-in-2
-unfolding clip div of_int of_bits
-returns-in-2 c = rw c.in-2.is
-
-pub returns-in-3 : goal.returns-in-3
-unfolding clip div of_int of_bits
-returns-in-3 c = rw c.in-3.is
-
-pub returns-in-4 : goal.returns-in-4
-unfolding clip div of_int of_bits
-returns-in-4 c = rw c.in-4.is
-
-pub returns-in-5 : goal.returns-in-5
-unfolding clip div of_int of_bits
-returns-in-5 c = rw c.in-5.is
-
-pub returns-in-6 : goal.returns-in-6
-unfolding clip div of_int of_bits
-returns-in-6 c = rw c.in-6.is
-
-pub returns-in-7 : goal.returns-in-7
-unfolding clip div of_int of_bits
-returns-in-7 c = rw c.in-7.is
-
-pub returns-in_default : goal.returns-in_default
-unfolding clip div of_int of_bits
-returns-in_default c = let e : c.args.cells ≡ 8 = omega arith in rw e
+pub returns : goal.returns
+unfolding clip
+returns c = rw (one, c.nearest_usize_to_f64.ensures)

@@ -17,13 +17,13 @@ at_most_eight seen ticks = by_test (off seen ticks) (one_to_eight seen ticks).1
 pub overflow_add-cells : goal.overflow_add-cells
 overflow_add-cells c =
     let a = c.args in
-    let few = rw (← c.nearest_cells-cells.ensures) at (one_to_eight a.seen (get_or a.ticks.now c.loop-i.i 0)) in
+    let few = rw (← c.nearest_cells-cells.ensures) at (one_to_eight a.seen (get_or a.ticks.now c.loop-t.t-index 0)) in
     omega arith
 
-pub loop-i-preserved : goal.loop-i-preserved
-loop-i-preserved c =
+pub loop-t-preserved : goal.loop-t-preserved
+loop-t-preserved c =
     let known = sym c.is_off.ensures in
     elim c.if-not-is_off.branch [
-      | then-not-is_off w ↦ one_added c.loop-i.invariant c.loop-i-test.true (at_most_eight _ _) (rw (known ∙ w.if-not-is_off.true, ← w.nearest_cells-cells.ensures) w.cells-is)
-      | else-not-is_off w ↦ one_added c.loop-i.invariant c.loop-i-test.true (at_most_eight _ _) (rw (known ∙ w.if-not-is_off.false) (omega arith))
+      | then-not-is_off w ↦ one_added c.loop-t.invariant c.loop-t-test.true (at_most_eight _ _) (rw (known ∙ w.if-not-is_off.true, ← w.nearest_cells-cells.ensures) w.cells-is)
+      | else-not-is_off w ↦ one_added c.loop-t.invariant c.loop-t-test.true (at_most_eight _ _) (rw (known ∙ w.if-not-is_off.false) (omega arith))
     ]

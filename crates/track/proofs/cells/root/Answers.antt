@@ -1,38 +1,27 @@
--- By each arm; the last has what is left, 8.
-use Rattle.std.proofs.Common.{◌≡◌, arith}
-use lib.Ieee.{of_int, of_bits, round}
+-- Row by row: both sides are computed.
+use Rattle.std.proofs.Common.{◌≡◌, ℕ, zero, suc, ◌+◌, ◌-◌, ◌<◌, get_or, List, [], ◌∷◌, arith, refl}
+use lib.Ieee.{Float, nan, binary64, of_int, of_bits, round}
 use Rattle.root.specs.Value.{root as square_root}
 use Rattle.track.specs.Cells.{root}
 use Rattle.track.proofs.cells.root.Goals as goal
 
-pub returns-in-1 : goal.returns-in-1
-unfolding root square_root of_int of_bits round
-returns-in-1 c = rw c.in-1.is
+table : List Float
+table =
+    of_bits binary64 4607182418800017408 ∷ of_bits binary64 4609047870845172685 ∷ of_bits binary64 4610479282544200874 ∷ of_bits binary64 4611686018427387904
+    ∷ of_bits binary64 4612217596255138984 ∷ of_bits binary64 4612698179346440494 ∷ of_bits binary64 4613140121109330154 ∷ of_bits binary64 4613551470472543181 ∷ []
 
-pub returns-in-2 : goal.returns-in-2
-unfolding root square_root of_int of_bits round
-returns-in-2 c = rw c.in-2.is
+row : (k : ℕ) → k < 8 → get_or table k nan ≡ root (k + 1)
+unfolding table root square_root of_int of_bits round
+row zero h = refl
+row (suc zero) h = refl
+row (suc (suc zero)) h = refl
+row (suc (suc (suc zero))) h = refl
+row (suc (suc (suc (suc zero)))) h = refl
+row (suc (suc (suc (suc (suc zero))))) h = refl
+row (suc (suc (suc (suc (suc (suc zero)))))) h = refl
+row (suc (suc (suc (suc (suc (suc (suc zero))))))) h = refl
+row (suc (suc (suc (suc (suc (suc (suc (suc k)))))))) h = absurd (omega arith)
 
-pub returns-in-3 : goal.returns-in-3
-unfolding root square_root of_int of_bits round
-returns-in-3 c = rw c.in-3.is
-
-pub returns-in-4 : goal.returns-in-4
-unfolding root square_root of_int of_bits round
-returns-in-4 c = rw c.in-4.is
-
-pub returns-in-5 : goal.returns-in-5
-unfolding root square_root of_int of_bits round
-returns-in-5 c = rw c.in-5.is
-
-pub returns-in-6 : goal.returns-in-6
-unfolding root square_root of_int of_bits round
-returns-in-6 c = rw c.in-6.is
-
-pub returns-in-7 : goal.returns-in-7
-unfolding root square_root of_int of_bits round
-returns-in-7 c = rw c.in-7.is
-
-pub returns-in_default : goal.returns-in_default
-unfolding root square_root of_int of_bits round
-returns-in_default c = let e : c.args.cells ≡ 8 = omega arith in rw e
+pub returns : goal.returns
+unfolding table
+returns c = let e : c.args.cells - 1 + 1 ≡ c.args.cells = omega arith in rw e at (row (c.args.cells - 1) (omega arith))

@@ -9,4 +9,4 @@ returns-then-is_off c = rw (← c.is_off.ensures, c.if-is_off.true)
 pub returns : goal.returns
 unfolding square_if_pulling
 returns c =
-    rw (← c.is_off.ensures, c.if-is_off.false, ← c.nearest_cells-cells.ensures, ← c.nearest_u64_to_f64.ensures)
+    rw (← c.is_off.ensures, c.if-is_off.false, ← c.nearest_cells-cells.ensures, ← c.nearest_usize_to_f64.ensures)

@@ -7,8 +7,8 @@ use Rattle.track.proofs.index.median.Goals as goal
 pub returns-then-is_middle : goal.returns-then-is_middle
 unfolding median
 returns-then-is_middle c =
-    found c.loop-i.invariant c.loop-i-test.true (sym c.is_middle.ensures ∙ c.if-is_middle.true)
+    found c.loop-time.invariant c.loop-time-test.true (sym c.is_middle.ensures ∙ c.if-is_middle.true)
 
 pub returns : goal.returns
 unfolding median
-returns c = none_found c.loop-i.invariant c.loop-i-test.false
+returns c = none_found c.loop-time.invariant c.loop-time-test.false

@@ -1,0 +1,6 @@
+-- Each is the same map, computed.
+use mathlib.Core.Path.{refl}
+use Rattle.decided.specs.Aliases.{Aliases}
+
+pub aliases : Aliases
+aliases = record { first = λ x. refl; second = λ x. refl; third = λ x. refl; fourth = λ x. refl }
