@@ -1,7 +1,8 @@
 // The turns that a file holds, and whether they are in order. A reader hands them over one by one, an index time with
 // `begin_revolution` and then each interval with `add_interval`. The intervals of all turns go into one lent slice, one
 // after another, in ticks of 25 ns.
-ghost use Rattle.std.specs.Prelude.{◌<◌, length};
+ghost use Rattle.std.specs.Prelude.{◌≡◌, ◌<◌, ◌≤◌, ◌^◌, length};
+ghost use Rattle.arrayvec.specs.ArrayVec.{array_vec_len};
 
 use arrayvec::ArrayVec;
 use std::fmt;
@@ -74,6 +75,9 @@ pub struct Reading<'a> {
     // The intervals of the last revolution, and their time together.
     latest: usize,
     spent: u64,
+    ghost as_many: { array_vec_len starts ≡ array_vec_len times },
+    ghost few_intervals: { intervals ≤ length ticks.now },
+    ghost short: { spent < 2 ^ 34 },
 }
 
 // What was read: the time of each turn, how many intervals passed before it, all intervals, and the median of the times.
@@ -101,8 +105,7 @@ impl<'a> Reading<'a> {
         if !self.times.is_empty() && self.latest == 0 {
             return Err(self.at_last(Wrong::NoInterval));
         }
-        // Both are as long. Each is asked, in place of a proof.
-        if self.times.is_full() || self.starts.is_full() {
+        if self.times.is_full() {
             return Err(self.at_this(Wrong::ManyRevolutions));
         }
         if time < SHORTEST_TURN || LONGEST_TURN < time {
@@ -161,9 +164,9 @@ impl<'a> Reading<'a> {
         Fault::Line(self.entries(), wrong)
     }
 
-    // An entry is an interval or begins a revolution. No count comes near the largest number.
+    // An entry is an interval or begins a revolution.
     fn entries(&self) -> usize {
-        self.intervals.saturating_add(self.times.len())
+        self.intervals + self.times.len()
     }
 
     pub(crate) fn turns(&self) -> Turns<'_> {
@@ -172,7 +175,7 @@ impl<'a> Reading<'a> {
         Turns {
             times,
             starts: self.starts.as_slice(),
-            ticks: all.get(..self.intervals).unwrap_or(all),
+            ticks: &all[..self.intervals],
             median: track::median(times),
         }
     }
