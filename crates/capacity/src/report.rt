@@ -214,8 +214,8 @@ impl fmt::Display for At {
     }
 }
 
-// The refusal's number, and in words which of the two where a handle is not live. The library has no Display, which document
-// 01 leaves behind: each program has its own words.
+// The refusal's number, and in words which of the two where a handle is not live. The library has no Display, which
+// document 01 leaves behind: each program has its own words.
 #[derive(Clone, Copy)]
 struct Reason(Refusal);
 

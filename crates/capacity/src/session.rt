@@ -10,6 +10,7 @@ use tape::{Handle, Operand, Tape};
 pub(crate) fn run(report: &Report<'_, impl Print>, lent: &mut Lent<'_>) -> io::Result<()> {
     lent.tape = report.moved("start", Tape::new(), Tape::start_recording)?;
     let filled = filling::fill(lent);
+    // Where no leaf was recorded, a handle that the calls refuse.
     let first = Operand::Node(filled.first.unwrap_or(Handle::NEVER_LIVE));
     report.filled(filled, lent.tape)?;
     probe(report, lent, first)?;

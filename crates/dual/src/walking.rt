@@ -31,7 +31,7 @@ fn push(i: usize, nodes: Nodes<'_>, adjoint: &mut [f64])
     let node_adjoint = adjoint[i];
     let first = MOST_EDGES * i;
     let end = first + nodes.count[i] as usize;
-    // By slot: a zip of the two arrays' parts would be no plainer, and the promise speaks of slots.
+    // By slot: a zip of the two arrays' parts would be no plainer, and the promise counts edges from a slot on.
     for slot in first..end {
         let at = nodes.child[slot] as usize;
         adjoint[at] += nodes.partial[slot] * node_adjoint;

@@ -35,8 +35,8 @@ const INFINITY: u64 = 0x7ff0_0000_0000_0000;
 // The place above a pattern's 52 digits.
 const PLACE: u64 = 0x10_0000_0000_0000;
 
-// Patterns stand bare: a type for those below +infinity would be made and taken apart in each of three functions.
-// The pattern of what one size leaves when another is taken off as often as it goes.
+// The pattern of what one size leaves when another is taken off as often as it goes. Patterns stand bare: a type for
+// those below +infinity would be made and taken apart in each of three functions.
 fn rest_of(size: u64, divisor: u64) -> u64
     requires { (size < 0x7ff0_0000_0000_0000) × (0 < divisor) × (divisor < 0x7ff0_0000_0000_0000) }
     ensures { Rest size divisor result }

@@ -30,7 +30,7 @@ fn is_nan(bits: u64) -> bool
     bits % SIGN > INFINITY
 }
 
-// Crate root has these for itself, and this crate does not stand on it.
+// Crate root has these for itself, and does not hand them out.
 const SIGN: u64 = 0x8000_0000_0000_0000;
 
 const INFINITY: u64 = 0x7ff0_0000_0000_0000;

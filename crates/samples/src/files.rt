@@ -40,8 +40,8 @@ const MOST_DIGITS: usize = 10;
 // Stands for what cannot be read of an answer, and is shown for it. No session answers it.
 const NO_NUMBER: u64 = u64::MAX;
 
-// Reads until the bytes are full or the file ends, and answers those that were read. The program speed has the same; the two
-// share no crate that reads.
+// Reads until the bytes are full or the file ends, and answers those that were read. The program speed has the same;
+// the two share no crate that reads.
 pub(crate) fn read_full<'a>(file: &mut impl Read, bytes: &'a mut [u8]) -> io::Result<&'a [u8]> {
     let room = bytes.len() as u64;
     let count = io::copy(&mut file.take(room), &mut Cursor::new(&mut *bytes))?;

@@ -41,7 +41,7 @@ fn digest(floats: &[f64]) -> u64 {
     floats.iter().fold(SEED, |sum, &x| next(sum ^ bits_of(x)))
 }
 
-// One fold for floats and one for bytes: a generic one would ask two things of its closure.
+// One fold for floats and one for bytes: a closure for an item's bits would come with conditions of its own.
 fn digest_of_bytes(bytes: &[u8]) -> u64 {
     bytes
         .iter()
