@@ -4,8 +4,8 @@
 -- No step, and so not spoken of here, are the public functions that make a state or a number (`Tape::new`,
 -- `Refusal::number`, `bits_of`) and those that calls are made of: `Handle::lookup` and `Handle::usable` answer
 -- `looked_up` and `usable_as` (crates/tape/specs/Handles.antt), `Lengths::of` and `Tape::admit` answer `lengths` and
--- `admitted (admission ..)` (crates/tape/specs/Admission.antt), `Tape::walking` answers `with_walk (walk_left ..)`
--- (crates/tape/specs/Machine.antt).
+-- `admitted (admission ..)` (crates/tape/specs/Admission.antt), `NodesMut::shared` and `Tape::walking` answer `shared`
+-- and `with_walk (walk_left ..)` (crates/tape/specs/Machine.antt).
 use Rattle.std.specs.Prelude.{ℕ, ◌≡◌, Bool, true, false, ◌||◌, List, [], ◌∷◌, eqb}
 use Rattle.std.proofs.Math.Option.{none, some}
 use Rattle.tape.specs.Numbers.{Numbers}
