@@ -40,11 +40,11 @@ struct Got {
     made: Made,
 }
 
-pub(crate) fn replay<R: Print>(list: &mut List<'_, R>, run: &mut Run) {
+pub(crate) fn replay<R: Print>(list: &mut List<'_, R>, run: &mut Run<'_>) {
     let Stage::EndedStale(task) = run.stage else {
         return;
     };
-    let spot = Spot::of(&run.machine, task);
+    let spot = Spot::of(&*run.machine, task);
     let tape = run.machine.tape;
     let issued = run.way == Way::Issued;
     let indexes = [spot.stale.index, tape.length, CAPACITY, usize::MAX];
@@ -124,7 +124,7 @@ impl Spot {
     fn try_with<R: Print>(
         self,
         list: &mut List<'_, R>,
-        run: &mut Run,
+        run: &mut Run<'_>,
         handle: Handle,
         wanted: Refusal,
     ) {
@@ -134,7 +134,7 @@ impl Spot {
             handle,
             wanted,
             liveness,
-            made: make(&mut run.machine, task, run.way, list.tally.lines),
+            made: make(&mut *run.machine, task, run.way, list.tally.lines),
         };
         let agrees = got.agrees();
         list.tally

@@ -21,19 +21,22 @@ pub enum Stage {
     Broken,
 }
 
+// The machine and the places stand with the caller, where they are filled: a struct that held them would be moved.
 #[derive(Drop)]
-pub struct Run {
+pub struct Run<'a> {
     pub way: Way,
-    pub machine: Machine,
-    places: Places,
+    pub machine: &'a mut Machine,
+    places: &'a mut Places,
     pub stage: Stage,
 }
 
 pub(crate) fn replay<R: Print>(list: &mut List<'_, R>, way: Way, lines: &[u8]) {
+    let mut machine = Machine::new();
+    let mut places = Places::new();
     let mut run = Run {
         way,
-        machine: Machine::new(),
-        places: Places::new(),
+        machine: &mut machine,
+        places: &mut places,
         stage: Stage::Going,
     };
     let lines = lines.strip_suffix(b"\n").unwrap_or(lines);
@@ -44,7 +47,7 @@ pub(crate) fn replay<R: Print>(list: &mut List<'_, R>, way: Way, lines: &[u8]) {
     run.finish(list);
 }
 
-impl Run {
+impl Run<'_> {
     fn line<R: Print>(&mut self, list: &mut List<'_, R>, line: &[u8]) {
         list.tally.next_line();
         match self.stage {
@@ -56,7 +59,7 @@ impl Run {
     }
 
     fn call<R: Print>(&mut self, list: &mut List<'_, R>, line: &[u8]) {
-        let Some(call) = calls::read(line, &self.places) else {
+        let Some(call) = calls::read(line, &*self.places) else {
             self.malformed(list);
             return;
         };
@@ -75,7 +78,7 @@ impl Run {
 
     // Carries the call out, with the digests after it where the line has them.
     fn carry_out<R: Print>(&mut self, list: &mut List<'_, R>, call: Call) -> Answer {
-        let heard = carry_out(&mut self.machine, call.task, self.way, list.tally.lines);
+        let heard = carry_out(&mut *self.machine, call.task, self.way, list.tally.lines);
         list.tally.more_slices(heard.slices);
         if let Some(node) = heard.node {
             self.places.keep(node);

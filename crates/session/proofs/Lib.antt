@@ -5,6 +5,7 @@ mod Turns
 mod Reported
 mod Bytes
 mod Back
+mod Made
 mod Only
 pub mod Reader
 pub mod Answered
