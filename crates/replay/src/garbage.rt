@@ -44,7 +44,7 @@ pub(crate) fn replay<R: Print>(list: &mut List<'_, R>, run: &mut Run<'_>) {
     let Stage::EndedStale(task) = run.stage else {
         return;
     };
-    let spot = Spot::of(&*run.machine, task);
+    let spot = Spot::of(&run.machine, task);
     let tape = run.machine.tape;
     let issued = run.way == Way::Issued;
     let indexes = [spot.stale.index, tape.length, CAPACITY, usize::MAX];
@@ -67,7 +67,7 @@ pub(crate) fn replay<R: Print>(list: &mut List<'_, R>, run: &mut Run<'_>) {
 
 // Carries the call out, which has to leave all as it was; what is lent for values and adjoints up to its end, so that
 // what is written behind the last node is seen.
-fn make(machine: &mut Machine, task: Task, way: Way, line: u64) -> Made {
+fn make(machine: &mut Machine<'_>, task: Task, way: Way, line: u64) -> Made {
     let tape = machine.tape;
     let before = machine.digests(CAPACITY);
     let heard = carry_out(machine, task, way, line);
@@ -96,7 +96,7 @@ fn exchanged(x: Operand, stale: bool, handle: Handle) -> Operand {
 }
 
 impl Spot {
-    fn of(machine: &Machine, task: Task) -> Spot {
+    fn of(machine: &Machine<'_>, task: Task) -> Spot {
         let left = is_stale(machine, task.left);
         let x = if left { task.left } else { task.right };
         Spot {
@@ -134,7 +134,7 @@ impl Spot {
             handle,
             wanted,
             liveness,
-            made: make(&mut *run.machine, task, run.way, list.tally.lines),
+            made: make(&mut run.machine, task, run.way, list.tally.lines),
         };
         let agrees = got.agrees();
         list.tally
@@ -156,7 +156,7 @@ impl Spot {
     }
 }
 
-fn is_stale(machine: &Machine, x: Operand) -> bool {
+fn is_stale(machine: &Machine<'_>, x: Operand) -> bool {
     refusal_for(machine.is_live(x)) == Some(Refusal::Stale)
 }
 

@@ -3,11 +3,12 @@ use crate::calls::{Call, Places, Task};
 use crate::carry_out::carry_out;
 use crate::kinds::Kind;
 use crate::list::List;
-use crate::machine::Machine;
+use crate::machine::{CAPACITY, Machine, NO_CHILD, NO_COUNT, SLOTS, UNLIKELY};
 use crate::said::Answer;
 use crate::subject::Way;
 use crate::tally::Aside;
 use crate::{calls, garbage};
+use tape::{NodesMut, Tape};
 
 // How far a sequence has come. What comes after a line that differs or is no call is left out, since the two tapes may
 // be unlike from there on.
@@ -21,21 +22,30 @@ pub enum Stage {
     Broken,
 }
 
-// The machine and the places stand with the caller, where they are filled: a struct that held them would be moved.
 #[derive(Drop)]
 pub struct Run<'a> {
     pub way: Way,
-    pub machine: &'a mut Machine,
+    pub machine: Machine<'a>,
     places: &'a mut Places,
     pub stage: Stage,
 }
 
 pub(crate) fn replay<R: Print>(list: &mut List<'_, R>, way: Way, lines: &[u8]) {
-    let mut machine = Machine::new();
     let mut places = Places::new();
+    let machine = Machine {
+        tape: Tape::new(),
+        nodes: NodesMut {
+            value: &mut [UNLIKELY; CAPACITY],
+            serial: &mut [1; CAPACITY],
+            count: &mut [NO_COUNT; CAPACITY],
+            child: &mut [NO_CHILD; SLOTS],
+            partial: &mut [UNLIKELY; SLOTS],
+        },
+        adjoint: &mut [UNLIKELY; CAPACITY],
+    };
     let mut run = Run {
         way,
-        machine: &mut machine,
+        machine,
         places: &mut places,
         stage: Stage::Going,
     };
@@ -78,7 +88,7 @@ impl Run<'_> {
 
     // Carries the call out, with the digests after it where the line has them.
     fn carry_out<R: Print>(&mut self, list: &mut List<'_, R>, call: Call) -> Answer {
-        let heard = carry_out(&mut *self.machine, call.task, self.way, list.tally.lines);
+        let heard = carry_out(&mut self.machine, call.task, self.way, list.tally.lines);
         list.tally.more_slices(heard.slices);
         if let Some(node) = heard.node {
             self.places.keep(node);
