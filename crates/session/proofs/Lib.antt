@@ -6,6 +6,7 @@ mod Reported
 mod Bytes
 mod Back
 mod Made
+mod Matches
 mod Only
 pub mod Reader
 pub mod Answered
