@@ -1,6 +1,6 @@
 -- The statements of specs/, each with its proof.
 use Rattle.decided.specs.Root.{Root}
-use Rattle.decided.specs.Aliases.{Aliases}
+use Rattle.decided.specs.Aliases.{Aliases, FwdLaws}
 use Rattle.decided.specs.Forward.{Floats, Numbers, Operators, Others, Compared}
 use Rattle.decided.specs.Tape.{Tape}
 use Rattle.decided.specs.Expr.{Expr}
@@ -33,6 +33,9 @@ root = of_root.root
 
 aliases : Aliases
 aliases = of_aliases.aliases
+
+fwd_laws : FwdLaws
+fwd_laws = of_aliases.fwd_laws
 
 floats : Floats
 floats = forward.floats

@@ -2,7 +2,7 @@
 -- by the trait Number is that of specs/Number.antt.
 use denote.Builtin.{f64}
 use denote.Param.{copied}
-use denote.Param.Laws.{of_field, of_copyable, copied_laws, copied_copy}
+use denote.Param.Laws.{Laws, of_field, of_copyable, copied_laws, copied_copy}
 use denote.Param.Shared.{copy_shared}
 use denote.Struct.Field.{f64-field}
 use denote.Struct.Laws.{f64-laws, f64-copy}
@@ -17,6 +17,7 @@ use Rattle.forward.specs.contracts.parts.Fwd.{the_row}
 use Rattle.forward.specs.contracts.parts.FwdClone.TheImpl as forward_clone
 use Rattle.forward.specs.contracts.parts.FwdNumber.TheImpl as forward
 use Rattle.forward.proofs.parts.Fwd.TheLaws.{the_row_laws, the_row_copy}
+use Rattle.decided.specs.Forward.{fwd_type}
 
 abbrev pub floats : NumberType
 floats = record {
@@ -51,3 +52,7 @@ pub record Aliases : Type 0 where
   pub second : (x : Fwd2) → (forwards (forwards floats)).number.number x ≡ number2 x
   pub third : (x : Fwd3) → (forwards (forwards (forwards floats))).number.number x ≡ number3 x
   pub fourth : (x : Fwd4) → (forwards (forwards (forwards (forwards floats)))).number.number x ≡ number4 x
+
+-- the laws that std's comparisons of Fwd<T> are asked with (specs/Forward.antt) hold at each type of numbers
+abbrev pub FwdLaws : Type 2
+FwdLaws = (t : NumberType) → Laws (fwd_type t)

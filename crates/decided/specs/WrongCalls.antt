@@ -3,10 +3,11 @@
 -- proofs/Wrong.antt, by computation.
 use Rattle.std.specs.Prelude.{ℕ, ◌≡◌, Bool, true, false, cond, List, [], ◌∷◌, ◌++◌, map, Float, set, take, replicate, Result, Ok, Err, None, Some}
 use Rattle.std.proofs.Math.Option.{Option, none, some}
+use Rattle.std.specs.Borrow.{MutBor}
 use Rattle.std.specs.Float.{nan, binary64}
 use Rattle.std.specs.Float.Ieee.{div, neg as minus, of_bits}
 use Rattle.tape.specs.Numbers.{floats}
-use Rattle.tape.specs.Machine.{Arrays, Machine, arrays, machine, new_tape, Walk, with_walk, state, span, walk_left}
+use Rattle.tape.specs.Machine.{Arrays, Machine, arrays, machine, new_tape, Walk, with_walk, state, span, walk_left, lent, shared as to_be_read}
 use Rattle.tape.specs.Handles.{Operand, plain, node, looked_up, counted_as, usable_as}
 use Rattle.tape.specs.Operations.{UNKNOWN, ADD, SUBTRACT, MULTIPLY, DIVIDE, MAX, MIN, NEGATE, SUPPLIED_ONE, SUPPLIED_TWO, SQRT}
 use Rattle.tape.specs.Walk.{Edge}
@@ -25,6 +26,8 @@ use Rattle.tape.specs.declared.node.Lookup.{Lookup}
 use Rattle.tape.specs.declared.node.Lookup.TheVariants as lookup
 use Rattle.tape.specs.declared.admission.Caller.TheVariants as caller
 use Rattle.tape.specs.declared.admission.Lengths.{Lengths}
+use Rattle.tape.specs.declared.nodes.Nodes.{Nodes}
+use Rattle.tape.specs.declared.nodes.NodesMut.{NodesMut}
 use Rattle.tape.specs.declared.tape.Tape.{Tape}
 use Rattle.expr.specs.Operators.{unused}
 use Rattle.expr.specs.Operators as expr
@@ -52,6 +55,22 @@ an_allowed = tried allowed_shown
 
 abbrev pub a_size : Lengths → Lengths → Tried
 a_size = tried (λ n. n.value ∷ n.adjoint ∷ n.serial ∷ n.count ∷ n.child ∷ n.partial ∷ [])
+
+-- what is behind the references to the five arrays
+abbrev pub arrays_shown : Nodes → List ℕ
+arrays_shown n =
+    map bits (lent n []).value ++ (lent n []).serial ++ (lent n []).count ++ (lent n []).child ++ map bits (lent n []).partial
+
+abbrev pub an_array_each : Nodes → Nodes → Tried
+an_array_each = tried arrays_shown
+
+abbrev pub written_behind : {A : Type 0} → List A → MutBor (List A)
+written_behind xs = record { ref_ptr = (0, 0); ghost_name = 0; now = xs }
+
+-- three values 1, 2 and 3 with these counts, and three edges
+abbrev pub three_values : List ℕ → NodesMut
+three_values counts =
+    record { value = written_behind (map float (1 ∷ 2 ∷ 3 ∷ [])); serial = written_behind (7 ∷ 8 ∷ 9 ∷ []); count = written_behind counts; child = written_behind (0 ∷ 1 ∷ 0 ∷ []); partial = written_behind (map float (4 ∷ 5 ∷ 6 ∷ [])) }
 
 abbrev pub walk_shown : Walk → List ℕ
 walk_shown None = []
@@ -194,6 +213,13 @@ lengths_of_tried =
     a_size (lengths longer) (record { value = 4; adjoint = 4; serial = 4; count = 4; child = 8; partial = 8 })
     ∷ a_size (lengths (sevens 4)) (record { value = 4; adjoint = 4; serial = 4; count = 4; child = 4; partial = 8 })
     ∷ []
+
+-- NodesMut::shared: the partials in the place of the values, where both have three entries; no children; a count changed
+abbrev pub shared_tried : List Tried
+shared_tried =
+    an_array_each (to_be_read (three_values (0 ∷ 1 ∷ 1 ∷ []))) (to_be_read (record (three_values (0 ∷ 1 ∷ 1 ∷ [])) { value = written_behind (map float (4 ∷ 5 ∷ 6 ∷ [])) }))
+    ∷ an_array_each (to_be_read (three_values (0 ∷ 1 ∷ 1 ∷ []))) (to_be_read (record (three_values (0 ∷ 1 ∷ 1 ∷ [])) { child = written_behind [] }))
+    ∷ an_array_each (to_be_read (three_values (0 ∷ 1 ∷ 1 ∷ []))) (to_be_read (three_values (0 ∷ 1 ∷ 2 ∷ []))) ∷ []
 
 -- new: an active tape; a first serial of 0; a walk open
 abbrev pub new_tried : List Tried
@@ -493,7 +519,7 @@ nought_or_one_tried = each_adjoint nought ++ each_adjoint one
 
 abbrev pub calls_tried : List Tried
 calls_tried =
-    number_tried ++ lookup_tried ++ usable_tried ++ lengths_of_tried ++ new_tried ++ start_recording_tried
+    number_tried ++ lookup_tried ++ usable_tried ++ lengths_of_tried ++ shared_tried ++ new_tried ++ start_recording_tried
     ++ stop_recording_tried
     ++ set_mark_tried ++ reset_mark_tried ++ rewind_to_mark_tried ++ rewind_to_init_tried ++ admit_tried ++ walking_tried
     ++ record_tried ++ new_leaf_tried ++ put_on_tape_tried ++ add_tried ++ subtract_tried

@@ -1,6 +1,7 @@
 -- The statements of specs/, each with its proof.
 use Prim.Native.Nat.{ℕ}
-use Rattle.forward.specs.Tests.{Operators}
+use Rattle.forward.specs.Forward.{Fwd}
+use Rattle.forward.specs.Tests.{Operators, OperatorsOf}
 use Rattle.forward.specs.Number.{NumbersOneToOne}
 use Rattle.forward.specs.Rows.{Holds, EveryRow, root_at_four}
 use Rattle.forward.specs.Values.{Values}
@@ -14,6 +15,9 @@ one_to_one = answers.one_to_one
 
 operators : (n : ℕ) → Operators n
 operators = tests.operators
+
+operators_of : (n : ℕ) {T : Type 0} (number : T → Fwd n) → OperatorsOf n number
+operators_of = tests.operators_of
 
 values : (n : ℕ) → Values n
 values = of_values.values

@@ -1,5 +1,5 @@
 -- By the three tests that `comparison` makes, of which the later ones fail where an earlier one holds.
-use Prim.Native.Nat.{ℕ}
+use Prim.Native.Nat.{ℕ, suc}
 use mathlib.Core.Path.{◌≡◌, refl, ap, ◌∙◌}
 use mathlib.Core.Bool.{Bool, true, false, cond, not, ◌||◌}
 use lib.Dec.{T}
@@ -7,8 +7,9 @@ use lib.Ieee.{Float, eq, ne, lt, le}
 use Rattle.std.proofs.Common.{Option, Some, None, Ordering, Less, Equal, Greater}
 use Rattle.std.specs.Ordering.{is_some_and, is_lt, is_le, is_gt, is_ge}
 use Rattle.std.proofs.lemmas.Float.{lt_trans, lt_irrefl, eq_flip, eq-not_lt}
-use Rattle.forward.specs.Forward.{value, comparison}
-use Rattle.forward.specs.Tests.{Operators}
+use Rattle.forward.specs.Forward.{Fwd, value, comparison}
+use Rattle.forward.specs.Number.{of_parts}
+use Rattle.forward.specs.Tests.{Operators, OperatorsOf}
 
 -- the answer by the three tests
 abbrev answer : Bool → Bool → Bool → Option Ordering
@@ -78,4 +79,13 @@ operators n = record {
   below_or_equal = λ x y. below_or_equal (value n x) (value n y);
   above = λ x y. above_by (lt (value n x) (value n y)) (eq (value n x) (value n y)) (lt (value n y) (value n x)) (never_both (value n x) (value n y)) (not_above (value n x) (value n y));
   above_or_equal = λ x y. above_or_equal (value n x) (value n y);
+}
+
+pub operators_of : (n : ℕ) {T : Type 0} (number : T → Fwd n) → OperatorsOf n number
+operators_of n number = record {
+  not_equal = λ x y. (operators (suc n)).not_equal (of_parts number x) (of_parts number y);
+  below = λ x y. (operators (suc n)).below (of_parts number x) (of_parts number y);
+  below_or_equal = λ x y. (operators (suc n)).below_or_equal (of_parts number x) (of_parts number y);
+  above = λ x y. (operators (suc n)).above (of_parts number x) (of_parts number y);
+  above_or_equal = λ x y. (operators (suc n)).above_or_equal (of_parts number x) (of_parts number y);
 }

@@ -2,7 +2,8 @@
 // numbers of the order below.
 //
 // Every call but a comparison takes its numbers by value. Each asks nothing of them, and promises the rule of
-// specs/Forward.antt at its order.
+// specs/Forward.antt at its order; `!=`, `<`, `<=`, `>` and `>=`, which are std's own, promise it by `OperatorsOf` of
+// specs/Tests.antt.
 #![tactic(auto)]
 
 pub mod comparing;

@@ -1,5 +1,5 @@
 // The program's arguments: `[-v] FILE.. [--slice N FILE..]`.
-ghost use Rattle.std.specs.Prelude.{◌<◌, IfSome};
+ghost use Rattle.std.specs.Prelude.{◌<◌, ◌≤◌, length, IfSome};
 
 use crate::digits;
 use std::env::{Env, FillError};
@@ -19,7 +19,9 @@ pub(crate) fn count(rt: &impl Env) -> usize {
 }
 
 // An argument, put at the start of `word`. `None` where there is none, or it is longer than `word`.
-pub(crate) fn read<'a>(rt: &impl Env, argument: usize, word: &'a mut [u8]) -> Option<&'a mut [u8]> {
+pub(crate) fn read<'a>(rt: &impl Env, argument: usize, word: &'a mut [u8]) -> Option<&'a mut [u8]>
+    ensures { IfSome result (λ found. length found.now ≤ length word.old) }
+{
     match rt.arg(argument, word) {
         Ok(length) => Some(&mut word[..length]),
         Err(_) => None,

@@ -12,7 +12,9 @@ const PIECE: usize = 65_536;
 // Linux's number of an error of the device (EIO), for which there is no kind.
 const DEVICE_FAILED: i32 = 5;
 
-// Reads the turns of a file up to its end, or to its first fault.
+// Reads the turns of a file up to its end, or to its first fault. Apart from its caller, so that its piece is off the stack
+// once the fit begins.
+#[inline(never)]
 pub(crate) fn read(rt: &impl Files, name: &[u8], reading: &mut Reading) -> Result<(), Fault> {
     let mut file = open(rt, name)?;
     read_all(&mut file, reading)

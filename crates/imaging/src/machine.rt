@@ -18,8 +18,7 @@ pub struct Machine {
     adjoint: [f64; NODES],
 }
 
-// What is recorded of the nodes, an array for each part, as a tape is lent them. The program replay has the like: one type
-// for both would need a length worked out of a const parameter.
+// What is recorded of the nodes, an array for each part, as a tape is lent them.
 #[derive(Drop)]
 struct Recordings {
     value: [f64; NODES],

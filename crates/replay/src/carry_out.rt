@@ -30,7 +30,7 @@ impl Heard {
 
 // A pass is carried out in a way, cut by the number of its line. The kinds come out of a list, so that each is told
 // apart here and in what is called here.
-pub(crate) fn carry_out(machine: &mut Machine, task: Task, way: Way, line: u64) -> Heard {
+pub(crate) fn carry_out(machine: &mut Machine<'_>, task: Task, way: Way, line: u64) -> Heard {
     if let Some(op) = task.kind.operation() {
         return after_recording(machine.record(op, task.left, task.right, task.given));
     }
@@ -58,13 +58,13 @@ fn after_recording(recorded: Result<Recorded, Refusal>) -> Heard {
     }
 }
 
-fn visited(machine: &mut Machine, pass: Pass) -> Result<Said, Refusal> {
+fn visited(machine: &mut Machine<'_>, pass: Pass) -> Result<Said, Refusal> {
     let edges = machine.in_one_go(pass)?;
     Ok(Said::Visited(u64::from(edges)))
 }
 
 // A call that records nothing and walks nothing.
-fn answer(machine: &mut Machine, task: Task) -> Result<Said, Refusal> {
+fn answer(machine: &mut Machine<'_>, task: Task) -> Result<Said, Refusal> {
     match task.kind {
         Kind::ResetAdjoints => machine.reset_adjoints()?,
         Kind::Value => return Ok(Said::Float(bits_of(machine.value(task.left)?))),

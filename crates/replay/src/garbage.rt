@@ -40,7 +40,7 @@ struct Got {
     made: Made,
 }
 
-pub(crate) fn replay<R: Print>(list: &mut List<'_, R>, run: &mut Run) {
+pub(crate) fn replay<R: Print>(list: &mut List<'_, R>, run: &mut Run<'_>) {
     let Stage::EndedStale(task) = run.stage else {
         return;
     };
@@ -67,7 +67,7 @@ pub(crate) fn replay<R: Print>(list: &mut List<'_, R>, run: &mut Run) {
 
 // Carries the call out, which has to leave all as it was; what is lent for values and adjoints up to its end, so that
 // what is written behind the last node is seen.
-fn make(machine: &mut Machine, task: Task, way: Way, line: u64) -> Made {
+fn make(machine: &mut Machine<'_>, task: Task, way: Way, line: u64) -> Made {
     let tape = machine.tape;
     let before = machine.digests(CAPACITY);
     let heard = carry_out(machine, task, way, line);
@@ -96,7 +96,7 @@ fn exchanged(x: Operand, stale: bool, handle: Handle) -> Operand {
 }
 
 impl Spot {
-    fn of(machine: &Machine, task: Task) -> Spot {
+    fn of(machine: &Machine<'_>, task: Task) -> Spot {
         let left = is_stale(machine, task.left);
         let x = if left { task.left } else { task.right };
         Spot {
@@ -124,7 +124,7 @@ impl Spot {
     fn try_with<R: Print>(
         self,
         list: &mut List<'_, R>,
-        run: &mut Run,
+        run: &mut Run<'_>,
         handle: Handle,
         wanted: Refusal,
     ) {
@@ -156,7 +156,7 @@ impl Spot {
     }
 }
 
-fn is_stale(machine: &Machine, x: Operand) -> bool {
+fn is_stale(machine: &Machine<'_>, x: Operand) -> bool {
     refusal_for(machine.is_live(x)) == Some(Refusal::Stale)
 }
 

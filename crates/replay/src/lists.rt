@@ -30,7 +30,7 @@ fn replay_file<R: Files + Print>(
         return;
     };
     let mut buffer = [0u8; LONGEST];
-    replay_all(list, subject, &mut file, Pending::new(&mut buffer));
+    replay_all(list, subject, &mut file, &mut buffer);
     list.summary(subject);
 }
 
@@ -40,8 +40,9 @@ fn replay_all<R: Print>(
     list: &mut List<'_, R>,
     subject: Subject,
     file: &mut impl Read,
-    mut case: Pending<'_>,
+    buffer: &mut [u8],
 ) {
+    let mut case = Pending::new(buffer);
     let mut space = [0u8; PIECE];
     let piece: &mut [u8] = &mut space;
     for _ in 0..u64::MAX {

@@ -6,7 +6,7 @@ use dual::passes::{
 };
 use dual::{Pass, Sliced};
 use expr::{Recorded, Supplied};
-use tape::{Handle, Lookup, Nodes, NodesMut, Operand, Refusal, Tape};
+use tape::{Handle, Lookup, NodesMut, Operand, Refusal, Tape};
 
 // What the arrays hold at first, no count or child that a node here can have and an unlikely float, so that what the
 // port leaves unwritten is seen.
@@ -19,41 +19,17 @@ pub const UNLIKELY: f64 = 0.7;
 // More nodes than a sequence has on the tape.
 pub const CAPACITY: usize = 400;
 
-const SLOTS: usize = 2 * CAPACITY;
+pub const SLOTS: usize = 2 * CAPACITY;
 
+// The arrays stand with the caller, where they are filled: a struct that held them would be moved.
 #[derive(Drop)]
-pub struct Machine {
+pub struct Machine<'a> {
     pub tape: Tape,
-    nodes: Recordings,
-    adjoint: [f64; CAPACITY],
+    pub nodes: NodesMut<'a>,
+    pub adjoint: &'a mut [f64],
 }
 
-// What is recorded of the nodes, an array for each part, as a tape is lent them. The program imaging has the like: one
-// type for both would need a length worked out of a const parameter.
-#[derive(Drop)]
-struct Recordings {
-    value: [f64; CAPACITY],
-    serial: [u64; CAPACITY],
-    count: [u8; CAPACITY],
-    child: [u16; SLOTS],
-    partial: [f64; SLOTS],
-}
-
-impl Machine {
-    pub(crate) fn new() -> Machine {
-        Machine {
-            tape: Tape::new(),
-            nodes: Recordings {
-                value: [UNLIKELY; CAPACITY],
-                serial: [1; CAPACITY],
-                count: [NO_COUNT; CAPACITY],
-                child: [NO_CHILD; SLOTS],
-                partial: [UNLIKELY; SLOTS],
-            },
-            adjoint: [UNLIKELY; CAPACITY],
-        }
-    }
-
+impl Machine<'_> {
     // Records an operation, and keeps the state after it.
     pub(crate) fn record(
         &mut self,
@@ -62,17 +38,9 @@ impl Machine {
         right: Operand,
         given: Supplied,
     ) -> Result<Recorded, Refusal> {
-        let mut nodes = NodesMut {
-            value: &mut self.nodes.value,
-            serial: &mut self.nodes.serial,
-            count: &mut self.nodes.count,
-            child: &mut self.nodes.child,
-            partial: &mut self.nodes.partial,
-        };
-        let adjoint = &mut self.adjoint;
-        let recorded = expr::recording::record(
-            self.tape, &mut nodes, adjoint, op, left, right, given,
-        )?;
+        let nodes = &mut self.nodes;
+        let adjoint = &mut *self.adjoint;
+        let recorded = expr::recording::record(self.tape, nodes, adjoint, op, left, right, given)?;
         self.tape = recorded.tape;
         Ok(recorded)
     }
@@ -81,7 +49,7 @@ impl Machine {
     pub(crate) fn in_one_go(&mut self, pass: Pass) -> Result<u32, Refusal> {
         let tape = self.tape;
         let nodes = self.nodes.shared();
-        let adjoint = &mut self.adjoint;
+        let adjoint = &mut *self.adjoint;
         match pass {
             Pass::Backward(root) => backward(tape, nodes, adjoint, root),
             Pass::BackwardToMark(root) => backward_to_mark(tape, nodes, adjoint, root),
@@ -94,7 +62,7 @@ impl Machine {
     // Opens a pass, and keeps the state after it.
     pub(crate) fn open_pass(&mut self, pass: Pass) -> Result<Sliced, Refusal> {
         let nodes = self.nodes.shared();
-        let sliced = dual::slicing::open_pass(self.tape, nodes, &mut self.adjoint, pass)?;
+        let sliced = dual::slicing::open_pass(self.tape, nodes, &mut *self.adjoint, pass)?;
         self.tape = sliced.tape;
         Ok(sliced)
     }
@@ -102,53 +70,41 @@ impl Machine {
     // Takes a slice, and keeps the state after it.
     pub(crate) fn take_slice(&mut self, size: usize) -> Result<Sliced, Refusal> {
         let nodes = self.nodes.shared();
-        let sliced = dual::slicing::take_slice(self.tape, nodes, &mut self.adjoint, size)?;
+        let sliced = dual::slicing::take_slice(self.tape, nodes, &mut *self.adjoint, size)?;
         self.tape = sliced.tape;
         Ok(sliced)
     }
 
     pub(crate) fn reset_adjoints(&mut self) -> Result<(), Refusal> {
         let nodes = self.nodes.shared();
-        dual::clearing::reset_adjoints(self.tape, nodes, &mut self.adjoint)
+        dual::clearing::reset_adjoints(self.tape, nodes, &mut *self.adjoint)
     }
 
     pub(crate) fn value(&self, x: Operand) -> Result<f64, Refusal> {
-        dual::reading::value(self.tape, self.nodes.shared(), &self.adjoint, x)
+        dual::reading::value(self.tape, self.nodes.shared(), &*self.adjoint, x)
     }
 
     pub(crate) fn adjoint(&self, x: Operand) -> Result<f64, Refusal> {
-        dual::reading::adjoint(self.tape, self.nodes.shared(), &self.adjoint, x)
+        dual::reading::adjoint(self.tape, self.nodes.shared(), &*self.adjoint, x)
     }
 
     pub(crate) fn is_live(&self, x: Operand) -> Result<Option<Lookup>, Refusal> {
-        dual::reading::is_live(self.tape, self.nodes.shared(), &self.adjoint, x)
+        dual::reading::is_live(self.tape, self.nodes.shared(), &*self.adjoint, x)
     }
 
     // The handle of the node at index 0, which is live while a walk is open.
     pub(crate) fn first_node(&self) -> Handle {
         Handle {
             index: 0,
-            serial: self.nodes.serial[0],
+            serial: self.nodes.serial.first().copied().unwrap_or(0),
         }
     }
 
     // Of the first values and adjoints.
     pub(crate) fn digests(&self, length: usize) -> Digests {
         Digests {
-            values: digest(&self.nodes.value, length),
-            adjoints: digest(&self.adjoint, length),
-        }
-    }
-}
-
-impl Recordings {
-    fn shared(&self) -> Nodes<'_> {
-        Nodes {
-            value: &self.value,
-            serial: &self.serial,
-            count: &self.count,
-            child: &self.child,
-            partial: &self.partial,
+            values: digest(&*self.nodes.value, length),
+            adjoints: digest(&*self.adjoint, length),
         }
     }
 }

@@ -3,11 +3,12 @@ use crate::calls::{Call, Places, Task};
 use crate::carry_out::carry_out;
 use crate::kinds::Kind;
 use crate::list::List;
-use crate::machine::Machine;
+use crate::machine::{CAPACITY, Machine, NO_CHILD, NO_COUNT, SLOTS, UNLIKELY};
 use crate::said::Answer;
 use crate::subject::Way;
 use crate::tally::Aside;
 use crate::{calls, garbage};
+use tape::{NodesMut, Tape};
 
 // How far a sequence has come. What comes after a line that differs or is no call is left out, since the two tapes may
 // be unlike from there on.
@@ -22,18 +23,30 @@ pub enum Stage {
 }
 
 #[derive(Drop)]
-pub struct Run {
+pub struct Run<'a> {
     pub way: Way,
-    pub machine: Machine,
-    places: Places,
+    pub machine: Machine<'a>,
+    places: &'a mut Places,
     pub stage: Stage,
 }
 
 pub(crate) fn replay<R: Print>(list: &mut List<'_, R>, way: Way, lines: &[u8]) {
+    let mut places = Places::new();
+    let machine = Machine {
+        tape: Tape::new(),
+        nodes: NodesMut {
+            value: &mut [UNLIKELY; CAPACITY],
+            serial: &mut [1; CAPACITY],
+            count: &mut [NO_COUNT; CAPACITY],
+            child: &mut [NO_CHILD; SLOTS],
+            partial: &mut [UNLIKELY; SLOTS],
+        },
+        adjoint: &mut [UNLIKELY; CAPACITY],
+    };
     let mut run = Run {
         way,
-        machine: Machine::new(),
-        places: Places::new(),
+        machine,
+        places: &mut places,
         stage: Stage::Going,
     };
     let lines = lines.strip_suffix(b"\n").unwrap_or(lines);
@@ -44,7 +57,7 @@ pub(crate) fn replay<R: Print>(list: &mut List<'_, R>, way: Way, lines: &[u8]) {
     run.finish(list);
 }
 
-impl Run {
+impl Run<'_> {
     fn line<R: Print>(&mut self, list: &mut List<'_, R>, line: &[u8]) {
         list.tally.next_line();
         match self.stage {
@@ -56,7 +69,7 @@ impl Run {
     }
 
     fn call<R: Print>(&mut self, list: &mut List<'_, R>, line: &[u8]) {
-        let Some(call) = calls::read(line, &self.places) else {
+        let Some(call) = calls::read(line, &*self.places) else {
             self.malformed(list);
             return;
         };

@@ -27,7 +27,7 @@ struct Cut {
 }
 
 // Opens the pass on the line and takes slices, with the last one where it is to be whole.
-pub(crate) fn pass_in_slices(machine: &mut Machine, pass: Pass, line: u64, way: Way) -> Heard {
+pub(crate) fn pass_in_slices(machine: &mut Machine<'_>, pass: Pass, line: u64, way: Way) -> Heard {
     let mut cut = Cut {
         visited: 0,
         left: 0,
@@ -47,7 +47,7 @@ pub(crate) fn pass_in_slices(machine: &mut Machine, pass: Pass, line: u64, way: 
 
 impl Cut {
     // An error is what is amiss.
-    fn walk(&mut self, machine: &mut Machine, pass: Pass, whole: bool) -> Result<(), Said> {
+    fn walk(&mut self, machine: &mut Machine<'_>, pass: Pass, whole: bool) -> Result<(), Said> {
         self.add(machine.open_pass(pass)?);
         // As many turns as nodes are enough, since a slice walks one at least.
         for _ in 0..self.left {
@@ -60,7 +60,7 @@ impl Cut {
     }
 
     // A slice, and then a read of an adjoint, which is to be answered while the walk is open.
-    fn next(&mut self, machine: &mut Machine) -> Result<(), Said> {
+    fn next(&mut self, machine: &mut Machine<'_>) -> Result<(), Said> {
         let size = self.size();
         let left = self.left.saturating_sub(size);
         self.add(machine.take_slice(size)?);
@@ -93,7 +93,7 @@ impl Cut {
 }
 
 // That the walk is over: a further slice has to be refused.
-fn closed(machine: &mut Machine) -> Result<(), Said> {
+fn closed(machine: &mut Machine<'_>) -> Result<(), Said> {
     match machine.take_slice(1) {
         Ok(sliced) => Err(Said::Left(sliced.left)),
         Err(Refusal::OutOfTurn) => Ok(()),

@@ -1,5 +1,5 @@
 // Cases and their answers, a file of each, as host/damage writes them.
-ghost use Rattle.std.specs.Prelude.{◌≤◌};
+ghost use Rattle.std.specs.Prelude.{◌≤◌, length, IfOk, IfSome};
 ghost use Rattle.samples.specs.declared.lent.TheConstants.{MOST_LISTING};
 
 use crate::lent::MOST_LISTING;
@@ -42,14 +42,18 @@ const NO_NUMBER: u64 = u64::MAX;
 
 // Reads until the bytes are full or the file ends, and answers those that were read. The program speed has the same;
 // the two share no crate that reads.
-pub(crate) fn read_full<'a>(file: &mut impl Read, bytes: &'a mut [u8]) -> io::Result<&'a [u8]> {
+pub(crate) fn read_full<'a>(file: &mut impl Read, bytes: &'a mut [u8]) -> io::Result<&'a [u8]>
+    ensures { IfOk result (λ read. length read.now ≤ length bytes.old) }
+{
     let room = bytes.len() as u64;
     let count = io::copy(&mut file.take(room), &mut Cursor::new(&mut *bytes))?;
     Ok(&bytes[..bytes.len().min(count as usize)])
 }
 
 // Reads a case, and its session into the text; none at the end of the file, or where a case cannot be read.
-pub(crate) fn read_case<'a>(file: &mut impl Read, text: &'a mut [u8]) -> Option<Case<'a>> {
+pub(crate) fn read_case<'a>(file: &mut impl Read, text: &'a mut [u8]) -> Option<Case<'a>>
+    ensures { IfSome result (λ c. length c.session.now ≤ length text.old) }
+{
     let (length, room) = lengths_of(read_line(file, &mut [0; MOST_LINE]))?;
     if length > text.len() || room > MOST_LISTING {
         return None;
@@ -92,7 +96,9 @@ fn number_in(text: &[u8]) -> Option<u64> {
 }
 
 // Reads a line up to its line feed, or to as many bytes as there is room for.
-fn read_line<'a>(file: &mut impl Read, line: &'a mut [u8]) -> &'a [u8] {
+fn read_line<'a>(file: &mut impl Read, line: &'a mut [u8]) -> &'a [u8]
+    ensures { length result.now ≤ length line.old }
+{
     for (i, place) in line.iter_mut().enumerate() {
         match next_byte(file) {
             None | Some(b'\n') => return &line[..i],

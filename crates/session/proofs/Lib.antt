@@ -5,6 +5,8 @@ mod Turns
 mod Reported
 mod Bytes
 mod Back
+mod Made
+mod Matches
 mod Only
 pub mod Reader
 pub mod Answered

@@ -10,13 +10,20 @@ use Rattle.text.specs.Parsed.{read_hex, read_decimal}
 use Rattle.tape.specs.Numbers.{floats}
 use Rattle.tape.specs.Machine.{Arrays, Machine, machine}
 use Rattle.tape.specs.Answers.{Answer, number}
+use Rattle.tape.specs.Calls as calls
+use Rattle.tape.specs.Handles as handles
+use Rattle.tape.specs.declared.errors.Refusal.{Refusal}
 use Rattle.tape.specs.declared.node.Operand as operand
 use Rattle.tape.specs.declared.tape.Tape.{Tape}
+use Rattle.expr.specs.Operators.{nothing}
+use Rattle.dual.specs.Outcome.{pass_of}
 use Rattle.session.specs.Lines as paper
 use Rattle.session.specs.Session.{Outcome, ended, stopped, refusal}
 use Rattle.session.specs.declared.lines.Stop.{Stop}
 use Rattle.session.specs.declared.reading.Source as source
 use Rattle.session.specs.declared.reading.Line as code
+use Rattle.session.specs.declared.running.Call as call
+use Rattle.session.specs.declared.running.Move as move
 
 -- ---- bytes
 
@@ -151,6 +158,24 @@ number_with pattern = operand.TheVariants.Number (of_bits binary64 pattern)
 abbrev pub operand_with : List ℕ → source.Source → operand.Operand
 operand_with serials (source.TheVariants.Node index) = node_with serials index
 operand_with serials (source.TheVariants.Number pattern) = number_with pattern
+
+abbrev pub move_of : move.Move → calls.Move
+move_of move.TheVariants.SetMark = calls.set_mark
+move_of move.TheVariants.ResetMark = calls.reset_mark
+move_of move.TheVariants.RewindToMark = calls.rewind_to_mark
+move_of move.TheVariants.RewindToInit = calls.rewind_to_init
+
+-- the machine's call
+abbrev pub named : call.Call → calls.Call floats
+named (call.TheVariants.Record op left right) = calls.operate op (handles.operand left) (handles.operand right) nothing
+named (call.TheVariants.Move which) = calls.move (move_of which)
+named call.TheVariants.Clear = calls.clear
+named (call.TheVariants.Pass which) = calls.pass (pass_of which)
+
+-- what a call answered whose state was left behind a reference
+abbrev pub kept : Result (Unit {0}) Refusal → Tape → Result Tape Refusal
+kept (Ok tt) t = Ok t
+kept (Err r) t = Err r
 
 -- of an answer nothing but its number is kept
 abbrev pub told : Answer floats × Machine floats → ℕ × Machine floats

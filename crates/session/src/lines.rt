@@ -3,7 +3,7 @@ ghost use Rattle.std.specs.Prelude.{◌≤◌, ◌<◌, ◌≡◌, length, IfErr
 ghost use Rattle.tape.specs.Machine.{SameArrays, machine, lent_mut};
 ghost use Rattle.tape.specs.Answers.{outcome};
 ghost use Rattle.session.specs.Session.{lines, run_read, run_lines, most_session, least_refusal};
-ghost use Rattle.session.specs.Inner.{reading, came_to, told};
+ghost use Rattle.session.specs.Inner.{reading, came_to, kept, told};
 
 use crate::reading::read_line;
 use crate::running::run_line;
@@ -32,10 +32,7 @@ pub(crate) fn run_lines(
 {
     let mut state = tape;
     for (line, text) in (1..).zip(session.split_inclusive(|byte| *byte == b'\n')) {
-        state = read_and_run(text, state, nodes, adjoint).map_err(|refusal| Stop {
-            refusal,
-            line,
-        })?;
+        read_and_run(text, &mut state, nodes, adjoint).map_err(|refusal| Stop { refusal, line })?;
     }
     Ok(state)
 }
@@ -43,12 +40,12 @@ pub(crate) fn run_lines(
 // A line is read whole before it runs; what is no line is refused 9.
 fn read_and_run(
     text: &[u8],
-    tape: Tape,
+    tape: &mut Tape,
     nodes: &mut NodesMut<'_>,
     adjoint: &mut [f64],
-) -> Result<Tape, Refusal>
-    ensures step { told (outcome result tape (lent_mut nodes.new adjoint.new))
-        ≡ told (run_read (reading text.now) (machine tape (lent_mut nodes.old adjoint.old))) }
+) -> Result<(), Refusal>
+    ensures step { told (outcome (kept result tape.new) tape.old (lent_mut nodes.new adjoint.new))
+        ≡ told (run_read (reading text.now) (machine tape.old (lent_mut nodes.old adjoint.old))) }
     ensures same { SameArrays nodes.old nodes.new }
 {
     let line = read_line(text).ok_or(Refusal::Malformed)?;

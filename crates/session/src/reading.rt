@@ -168,9 +168,18 @@ fn first_at(text: &[u8], byte: u8) -> Option<usize>
 }
 
 // Whether a text is this word. A slice and a byte string have no `==`, and a `match` on byte strings says nothing of the
-// words that are not there but byte by byte, in some fifty cases.
+// words that are not there but byte by byte, in some fifty cases. By a loop, which a compiler makes of a word that it knows
+// in place; `==` is called, and a line takes a tenth more.
 fn is(text: &[u8], word: &[u8]) -> bool
     ensures { result ≡ bytes_eq text.now word.now }
 {
-    text == word
+    if text.len() != word.len() {
+        return false;
+    }
+    for i in 0..text.len() {
+        if text[i] != word[i] {
+            return false;
+        }
+    }
+    true
 }

@@ -7,7 +7,7 @@ use tape::{Nodes, Refusal, Tape};
 const OTHER_SEED: u64 = 0x2545_f491_4f6c_dd1d;
 
 // A node's line has at most 53 bytes. What the first lines leave has room for the header. With the arrays of a tape this
-// is 6.4 MB of stack, of which a process has 8 as a rule.
+// is 6.4 MB of stack, of which a process has 8 as a rule: no more than a plan's recording takes with them.
 pub const LISTING_BYTES: usize = 53 * NODES;
 
 // Writes one listing over the other, as many as asked for, and answers how long the last one is. The adjoints are drawn,

@@ -10,6 +10,8 @@ mod requests;
 mod roots;
 mod rounds;
 
+ghost use Rattle.std.specs.Prelude.{◌≤◌, length, IfOk};
+
 use listings::LISTING_BYTES;
 use plan::{NODES, Reach};
 use requests::{Plan, Request};
@@ -36,7 +38,9 @@ fn main(rt: HostRuntime) -> io::Result<()> {
 
 // Reads until the bytes are full or the input ends, and answers those that were read. The program samples has the same
 // function; the two share no crate that reads.
-fn read_full<'a>(input: &mut impl Read, bytes: &'a mut [u8]) -> io::Result<&'a [u8]> {
+fn read_full<'a>(input: &mut impl Read, bytes: &'a mut [u8]) -> io::Result<&'a [u8]>
+    ensures { IfOk result (λ read. length read.now ≤ length bytes.old) }
+{
     let room = bytes.len() as u64;
     let count = io::copy(&mut input.take(room), &mut Cursor::new(&mut *bytes))?;
     Ok(&bytes[..bytes.len().min(count as usize)])
@@ -78,6 +82,8 @@ fn on_tape(rt: &impl Print, reach: Reach, times: u64) -> io::Result<()> {
     }
 }
 
+// Apart from its caller, as its bytes and the plan of `repeat` need not stand on the stack at once.
+#[inline(never)]
 fn list(
     rt: &impl Print,
     times: u64,

@@ -21,7 +21,9 @@ pub struct Round {
     pub edges: u32,
 }
 
-// As many rounds as asked for, and what the last one came to. Nothing is cleared between them.
+// As many rounds as asked for, and what the last one came to. Nothing is cleared between them. Apart from its caller, so
+// that the plan is off the stack once a listing begins.
+#[inline(never)]
 pub(crate) fn repeat(
     reach: Reach,
     times: u64,

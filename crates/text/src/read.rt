@@ -67,7 +67,9 @@ fn value(text: &[u8], base: u64) -> Option<u64>
 {
     let mut n = 0;
     for &byte in text {
-        let digit = digit_value(byte, base)?;
+        let Some(digit) = digit_value(byte, base) else {
+            return None;
+        };
         n = base * n + digit;
     }
     Some(n)

@@ -46,17 +46,27 @@ pub fn is_off(ticks: u32, seen: f64) -> bool
 pub fn count_cells(ticks: &[u32], seen: f64, cells: usize) -> usize
     ensures { result ≡ total (of_length seen cells) ticks.now }
 {
-    ticks
-        .iter()
-        .filter(|t| nearest_cells(**t, seen) == cells)
-        .count()
+    let mut count = 0;
+    // By a loop, which is half as long as `filter` and `count`.
+    for &t in ticks {
+        if nearest_cells(t, seen) == cells {
+            count += 1;
+        }
+    }
+    count
 }
 
 // How many of the intervals are off.
 pub fn count_off(ticks: &[u32], seen: f64) -> usize
     ensures { result ≡ total (one_if_off seen) ticks.now }
 {
-    ticks.iter().filter(|t| is_off(**t, seen)).count()
+    let mut count = 0;
+    for &t in ticks {
+        if is_off(t, seen) {
+            count += 1;
+        }
+    }
+    count
 }
 
 // How many cells the intervals that pull have together.

@@ -6,6 +6,6 @@ use Rattle.imaging.proofs.fit_all.Given as goal
 abbrev pub invariant-loop-argument : goal.invariant-loop-argument
 invariant-loop-argument g l =
     (l.first ≤ l.argument)
-    × (files l.fn.tally ≤ l.first)
+    × (files l.fn.told.tally ≤ l.first)
     × (l.argument - l.first ≤ l.end - l.first)
-    × (files l.tally ≡ files l.fn.tally + (l.argument - l.first))
+    × (files l.told.tally ≡ files l.fn.told.tally + (l.argument - l.first))

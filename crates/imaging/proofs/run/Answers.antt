@@ -9,4 +9,4 @@ few {found} {slice} {end} {none} {now} first count e f z h =
 
 pub fit_in_slices-requires : goal.fit_in_slices-requires
 fit_in_slices-requires g c =
-    (few _ _ c.in-Some.is c.unwrap_or.ensures c.new-tally.ensures c.in_ok-fit_all.ensures, c.in-Some.ensures)
+    (few _ _ c.in-Some.is c.unwrap_or.ensures c.new.ensures c.fit_all.ensures, c.in-Some.ensures)

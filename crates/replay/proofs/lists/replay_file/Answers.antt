@@ -3,5 +3,5 @@ use Rattle.std.proofs.Common.{ℕ, sym}
 use Rattle.std.proofs.lemmas.List.{length-replicate}
 use Rattle.replay.proofs.lists.replay_file.Goals as goal
 
-pub slice_bounds-new-end : goal.slice_bounds-new-end
-slice_bounds-new-end g c = sym (length-replicate {0} {A = ℕ} 2097152 0)
+pub slice_bounds-replay_all-end : goal.slice_bounds-replay_all-end
+slice_bounds-replay_all-end g c = sym (length-replicate {0} {A = ℕ} 2097152 0)

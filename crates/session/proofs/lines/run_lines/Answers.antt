@@ -14,7 +14,7 @@ pub loop-line-preserved : goal.loop-line-preserved
 loop-line-preserved c =
     let ((at, next), (cut, (i, long, first), some)) = c.in-Some.ensures.steps in
     let feed = first (λ b. b == 10) (answers_always _ _ _ (λ f a r q k. search rules)) in
-    let ran : c.read_and_run.result ≡ Ok c.in_ok-state.state = search rules in
+    let ran : c.read_and_run.result ≡ Ok tt = search rules in
     let l = c.loop-line in
     let text = c.in-Some.text.now in
     let later = c.next.new.self.b.rest.now in
@@ -27,11 +27,11 @@ loop-line-preserved c =
       same = search rules;
     }
 
-pub returns-in_err-state-clause-whole : goal.returns-in_err-state-clause-whole
-returns-in_err-state-clause-whole c =
+pub returns-in_err-map_err-clause-whole : goal.returns-in_err-map_err-clause-whole
+returns-in_err-map_err-clause-whole c =
     let ((at, next), (cut, (i, long, first), some)) = c.in-Some.ensures.steps in
     let feed = first (λ b. b == 10) (answers_always _ _ _ (λ f a r q k. search rules)) in
-    let stop = c.in_err-state.field-0.0 in
+    let stop = c.in_err-map_err.field-0.0 in
     let ran : c.read_and_run.result ≡ Err stop.refusal = search rules in
     let there : stop.line ≡ c.in-Some.line = search rules in
     let p = err_from_is_err_and c.from_residual.result c.from_residual.ensures.1 in
@@ -39,10 +39,10 @@ returns-in_err-state-clause-whole c =
     let step = one_stopped l.line-iterator.b.rest.now c.in-Some.text.now c.next.new.self.b.rest.now l.line-iterator.a.start i (machine l.state (lent_mut l.nodes l.adjoint)) cut long feed.1 some stop.refusal (rw ran at c.read_and_run.ensures.step) in
     rw (p.1, p.2, there, at) (step ∙ l.invariant.left)
 
-pub returns-in_err-state-clause-small : goal.returns-in_err-state-clause-small
-returns-in_err-state-clause-small c =
+pub returns-in_err-map_err-clause-small : goal.returns-in_err-map_err-clause-small
+returns-in_err-map_err-clause-small c =
     let ((at, next), others) = c.in-Some.ensures.steps in
-    let there : c.in_err-state.field-0.0.line ≡ c.in-Some.line = search rules in
+    let there : c.in_err-map_err.field-0.0.line ≡ c.in-Some.line = search rules in
     let p = err_from_is_err_and c.from_residual.result c.from_residual.ensures.1 in
     let few = c.loop-line.invariant.few in
     rw (p.1, p.2, there, at) (omega arith)

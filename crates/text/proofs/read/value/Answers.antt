@@ -5,8 +5,8 @@ use mathlib.Core.Path.{sym, ◌∙◌}
 use Rattle.text.proofs.Reading.{one_fits}
 use Rattle.text.proofs.read.value.Goals as goal
 
-fits : (c : goal.In_ok-digit) → c.args.base * c.loop-byte.n + c.in_ok-digit.digit < 2 ^ 64
-fits c = one_fits c.loop-byte.invariant c.loop-byte-test.true (sym c.digit_value.ensures ∙ c.in_ok-digit.was) c.requires.1
+fits : (c : goal.In-Some) → c.args.base * c.loop-byte.n + c.in-Some.digit < 2 ^ 64
+fits c = one_fits c.loop-byte.invariant c.loop-byte-test.true (sym c.digit_value.ensures ∙ c.in-Some.is) c.requires.1
 
 pub overflow_mul-n : goal.overflow_mul-n
 overflow_mul-n c = omega (arith, fits c)
